@@ -34,11 +34,17 @@ if not MISSING:
 
 
 @functools.cache
-def night() -> tuple[list[str], str]:
+def whole_night() -> tuple[list[str], str]:
     """The openings of a tournament, and its record."""
     openings = report_tournament.openings_of(5)
     with tempfile.TemporaryDirectory() as name:
         return openings, report_tournament.record_of(pathlib.Path(name), openings)
+
+
+def night() -> tuple[list[str], str]:
+    """The same, but the record has no head."""
+    openings, text = whole_night()
+    return openings, text.split("\n", 1)[1]
 
 
 def skip_if_missing(what: str) -> None:
@@ -120,6 +126,18 @@ class Records(support.Case):
                 with self.assertRaises(records.RecordError) as refused:
                     records.read_record([records.Source("x", text)])
                 self.assertIn(words, str(refused.exception))
+
+    def test_heads(self) -> None:
+        """A record with its head is read as one without it; another head is refused."""
+        text, headless = whole_night()[1], night()[1]
+        games = records.read_record([records.Source("x", headless)]).games
+        self.assertEqual(records.read_record([records.Source("x", text)]).games, games)
+        lines = text.split("\n")
+        rest = "\n".join([lines[0].replace("depth 1", "depth 2"), *lines[3:]])
+        parts = [records.Source("x", "\n".join(lines[:3]) + "\n"), records.Source("y", rest)]
+        with self.assertRaises(records.RecordError) as refused:
+            records.read_record(parts)
+        self.assertIn("another tournament", str(refused.exception))
 
     def test_joined_files(self) -> None:
         """A run that was cut, and what went on, are one record; its files have names in faults."""

@@ -5,6 +5,7 @@ in and goes on, and an engine that stalls loses the one game in which it does.
 Four openings are grown and played, or as many as HIVE_OPENINGS says.
 """
 import functools
+import hashlib
 import os
 import signal
 import subprocess
@@ -19,6 +20,15 @@ SETUP = ["--type", "Base+MLP", "--depth", "1", "--plies", "60", "--at-once", "2"
 RESUMED = [*SETUP, "--resume", "1"]
 STALLING = ["--type", "Base+MLP", "--depth", "1", "--plies", "30", "--patience", "00:00:02"]
 STALLING += ["--rounds", "2"]
+
+
+def head(engines: Sequence[str], openings: Sequence[str]) -> str:
+    """The head of a tournament by SETUP, by docs/FORMATS.md and apart from the program."""
+    digest = hashlib.sha256(text_of(openings).encode("ascii")).hexdigest()
+    return (
+        "tournament 1 type Base+MLP depth 1 plies 60 repetition 0 rounds 1 gauntlet 0 "
+        f"openings {len(openings)} sha256 {digest} engines {';'.join(engines)}"
+    )
 
 
 def started(engines: Sequence[str], words: Sequence[str], **how) -> subprocess.Popen:
@@ -61,11 +71,13 @@ class Tournaments(support.Case):
         games = schedule(len(engines), len(self.openings))
         status, told = tournament(engines, SETUP, self.openings)
         self.assertEqual(status, 0)
-        verdicts = self.verdicts_of(told, games)
-        rows = told[2 * len(games) :]
+        self.assertEqual(told[0], head(engines, self.openings))
+        verdicts = self.verdicts_of(told[1:], games)
+        rows = told[1 + 2 * len(games) :]
         self.assertEqual(rows, standings(engines, verdicts))
         self.assertEqual(sum(int(row.split(" ")[2]) for row in rows), 2 * len(games))
         self.check_resumed(engines, told)
+        self.check_another_tournament(engines, told)
 
     def check_resumed(self, engines: Sequence[str], told: list[str]) -> None:
         """That a run which is killed in its middle goes on where its output is handed in."""
@@ -81,28 +93,54 @@ class Tournaments(support.Case):
         run.stdout.close()
         # whole games, as docs/TOURNAMENTS.md says
         kept = half.decode("ascii").split("\n")[:-1]
-        kept = kept[: len(kept) // 2 * 2]
+        kept = kept[: (len(kept) - 1) // 2 * 2 + 1]
         self.assertEqual(kept, told[: len(kept)], "what was written before it was killed")
         # the verdict of one more game is cut
         handed_in = [*self.openings, "", *kept, told[len(kept)], told[len(kept) + 1][:12]]
         status, rest = tournament(engines, RESUMED, handed_in)
         self.assertEqual(status, 0)
-        self.assertEqual(rest, told[len(kept) :], "what goes on")
+        self.assertEqual(rest, [told[0], *told[len(kept) :]], "what goes on")
+        # the output of both runs, one behind the other
+        handed_in = [*self.openings, "", *kept, *rest]
+        status, table = tournament(engines, RESUMED, handed_in)
+        self.assertEqual((status, table), (0, [told[0], *told[-len(engines) :]]), "all are played")
+
+    def check_another_tournament(self, engines: Sequence[str], told: list[str]) -> None:
+        """That the output of another tournament is refused by the first that differs."""
+        deeper, longer = RESUMED.copy(), RESUMED.copy()
+        deeper[deeper.index("--depth") + 1] = "2"
+        longer[longer.index("--plies") + 1] = "20"
+        openings = self.openings
+        exchanged = [*openings[1::-1], *openings[2:]]
+        for word, names, words, given in [
+            ("engines", engines[::-1], RESUMED, openings),
+            ("depth", engines, deeper, openings),
+            ("plies", engines, longer, openings),
+            ("rounds", engines, [*RESUMED, "--rounds", "2"], openings),
+            ("gauntlet", engines, [*RESUMED, "--gauntlet", "1"], openings),
+            ("openings", engines, RESUMED, openings[1:]),
+            ("sha256", engines, RESUMED, exchanged),
+            ("tournament", engines, RESUMED, openings),
+        ]:
+            lines = told[1:] if word == "tournament" else told
+            found = tournament(names, words, [*given, "", *lines])
+            self.assertEqual(found, (6, [f"bad line {len(given) + 2} other {word}"]), word)
 
     def test_refusals(self) -> None:
         """Lines that are no openings, and games that are not of the plan, by their numbers."""
         engines, openings = support.deep_engines(self.folder()), self.openings
         finished = "Base;BlackWins;White[8];wG1;bG1 wG1-"
         no_game = "Base+MLP;InProgress;White[2];wS1;bS1 wS9-"
-        no_plan = ["verdict 1 1 2 limit 3", "game 1 1 2 x"]
-        another = ["game 2 1 2 x", "verdict 2 1 2 limit 3"]
+        first = [head(engines, openings[:1])]
+        no_plan = [*first, "verdict 1 1 2 limit 3", "game 1 1 2 x"]
+        another = [*first, "game 2 1 2 x", "verdict 2 1 2 limit 3"]
         for name, words, lines, number in [
             ("a line that is no game", SETUP, [openings[0], no_game], 2),
             ("a game that is not as it says", SETUP, [finished], 1),
             ("another type", SETUP, openings[:2] + ["Base;InProgress;Black[1];wS1"], 3),
             ("an empty line", SETUP, [openings[0], ""], 2),
-            ("a verdict of no game", RESUMED, [openings[0], "", *no_plan], 3),
-            ("another number", RESUMED, [openings[0], "", *another], 3),
+            ("a verdict of no game", RESUMED, [openings[0], "", *no_plan], 4),
+            ("another number", RESUMED, [openings[0], "", *another], 4),
         ]:
             found = tournament(engines, words, lines)
             self.assertEqual(found, (6, [f"bad line {number}"]), name)
@@ -113,18 +151,18 @@ class Tournaments(support.Case):
         engines = [stalls, HIVE]
         status, lines = tournament(engines, STALLING, self.openings[:1])
         self.assertEqual(status, 0)
-        verdicts = self.verdicts_of(lines, schedule(2, 1, 2))
+        verdicts = self.verdicts_of(lines[1:], schedule(2, 1, 2))
         lost = [it for it, (_, verdict) in enumerate(verdicts) if verdict[0] == "forfeit"]
         self.assertEqual(lost, [1], "the game in which it stalls")
         self.assertEqual(verdicts[1][1], ["forfeit", "black", "broke"])
-        self.assertEqual(lines[len(verdicts) * 2 :], standings(engines, verdicts))
+        self.assertEqual(lines[1 + len(verdicts) * 2 :], standings(engines, verdicts))
 
     def test_games_that_meet(self) -> None:
         engines = support.meeting_engines(self.folder())
         words = ["--depth", "1", "--plies", "1", "--at-once", "2"]
         status, lines = tournament(engines, words, [])
         self.assertEqual(status, 0)
-        told = [line.split(" ", 1)[1] for line in lines[1:4:2]]
+        told = [line.split(" ", 1)[1] for line in lines[2:5:2]]
         self.assertEqual(told, ["1 1 2 limit 1", "2 2 1 limit 1"])
 
     def test_gauntlet(self) -> None:

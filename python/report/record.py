@@ -1,4 +1,4 @@
-"""Reads the record that `hive tournament` writes: two lines a game, and then the standings.
+"""Reads the record that `hive tournament` writes: its head, two lines a game, and then the standings.
 
 A record that was cut is read up to its last whole game. Whatever else differs from what the
 program writes is refused with its line, and so are standings that differ from the games.
@@ -15,6 +15,7 @@ from standings import Standing, rank
 TYPE = r"Base(?:\+(?:M|L|P|ML|MP|LP|MLP))?"
 STATE = r"NotStarted|InProgress|Draw|WhiteWins|BlackWins"
 STRING = re.compile(rf"({TYPE});({STATE});(White|Black)\[([1-9]\d*)\]((?:;[^;]+)*)")
+HEAD = re.compile(r"tournament 1 type .+ engines .+")
 GAME = re.compile(r"game ([1-9]\d*) ([1-9]\d*) ([1-9]\d*) (Base.*)")
 VERDICT = re.compile(r"verdict ([1-9]\d*) ([1-9]\d*) ([1-9]\d*) (.*)")
 ENDING = re.compile(
@@ -145,13 +146,20 @@ def read_verdict(text: str) -> Verdict | None:
 
 
 def read_record(sources: Sequence[Source]) -> Record:
-    """The record of a tournament. Several sources are a run that was cut, and what went on."""
+    """The record of a tournament. Several sources are a run that was cut, and what went on. Each may
+    begin with the head, and all heads are the same."""
+    head: Line | None = None
     games: list[Game] = []
     rest: list[Line] = []
     for source in sources:
         if rest:
             raise RecordError(f"{rest[0].place}: neither a game nor the end of this file")
-        more, rest = _read_games(list(_lines(source)), len(games) + 1)
+        lines = list(_lines(source))
+        if lines and HEAD.fullmatch(lines[0].text):
+            head = head or lines[0]
+            if lines.pop(0).text != head.text:
+                raise RecordError(f"{source.name}, line 1: another tournament than {head.place}")
+        more, rest = _read_games(lines, len(games) + 1)
         games += more
     if not games:
         told = f"{rest[0].place}: {rest[0].text}" if rest else sources[-1].name

@@ -47,10 +47,11 @@ use Rattle.grow_command.specs.Runs.{GrowRun}
 use Rattle.win_commands.specs.Runs.{SolveRun, VerifyRun}
 use Rattle.tournament_command.specs.declared.format.Format.{Format}
 use Rattle.tournament_command.specs.Formats.{terms_of}
-use Rattle.tournament_command.specs.Intakes.{nothing_read}
+use Rattle.tournament_command.specs.Intakes.{Intake, nothing_read}
 use Rattle.tournament_command.specs.Reads.{ReadTournamentRun}
 use Rattle.tournament_command.proofs.Gathering.{nothing_tells}
 use Rattle.command_runs.proofs.ReadLemmas.{none_were_read}
+use Rattle.tournament_games.specs.Tournaments.{Terms}
 use Rattle.tournament_games.specs.Waves.{TournamentRun}
 use Rattle.book_command.proofs.StartLaws.{unread}
 use Rattle.command_runs.proofs.OneGameLemmas.{none_read}
@@ -68,8 +69,14 @@ read_usage setup white black status before after (inl (game, begun)) e =
     subst (λ s. MatchRun (setup_from (typed setup game.game_type) game.moves) s (once_read after.sides.rest before) after) e begun.played
 read_usage setup white black status before after (inr (none, read)) e = none_usage none status before.sides.written after.sides.written read.told e
 
+headed_usage : (t : Terms) (i : Intake) (before after : World) → TournamentRun t i.ends Usage before after → ⊥
+headed_usage t i before after (inl run) = run
+headed_usage t i before after (inr run) = run
+
 tournament_usage : (engines : List Engine) (format : Format) (status : Status) (before after : World) → ReadTournamentRun engines format status before after → status ≡ Usage → ⊥
-tournament_usage engines format status before after (inl (i, begun)) e = subst (λ s. TournamentRun (terms_of engines format i.openings) i.ends s (once_read after.sides.rest before) after) e begun.played
+tournament_usage engines format status before after (inl (i, begun)) e =
+    headed_usage (terms_of engines format i.openings) i (once_read after.sides.rest before) after
+    (subst (λ s. TournamentRun (terms_of engines format i.openings) i.ends s (once_read after.sides.rest before) after) e begun.played)
 tournament_usage engines format status before after (inr (none, read)) e = none_usage none status before.sides.written after.sides.written read.told e
 
 -- a run that is asked for does not end with `Usage`
@@ -224,7 +231,7 @@ pub starved_tournament : (words : List (String Global)) (setup : Setup) (rounds 
 starved_tournament words setup rounds gauntlet at_once resume w h = let (engines, asks) = asks_tournament_engines words setup rounds gauntlet at_once resume h in (
   engines,
   asks,
-  inr (NoMemory, record { shown = λ input told. ([], [], nothing_read, none_were_read input w.sides.rest told, nothing_tells (length engines) (format_of setup rounds gauntlet at_once resume), omega arith); told = (refl, refl); unstarted = refl }),
+  inr (NoMemory, record { shown = λ input told. ([], [], nothing_read, none_were_read input w.sides.rest told, nothing_tells engines (format_of setup rounds gauntlet at_once resume), omega arith); told = (refl, refl); unstarted = refl }),
 )
 
 -- a tournament for which memory ran out before anything was done

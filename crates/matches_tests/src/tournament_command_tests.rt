@@ -50,20 +50,39 @@ const OPENINGS: &[u8] = b"Base;InProgress;White[2];wS1;bS1 wS1-\n\
 const ILLEGAL: &[u8] = b"Base;InProgress;White[2];wS1;bS1 wS1-\n\
     Base;InProgress;White[2];wS1;bA4 wS1/\n";
 
-/// The openings, and the first two games of one round.
+/// The openings, and the head and the first two games of one round. The sum is that of the lines of
+/// the openings, by `sha256sum`.
 const HANDED_IN: &[u8] = b"Base;InProgress;White[2];wS1;bS1 wS1-\n\
     Base;InProgress;White[2];wS1;bS1 wS1/\n\n\
+    tournament 1 type Base depth 1 plies 3 repetition 0 rounds 1 gauntlet 0 openings 2 sha256 \
+    da6f8ce80ecc79d83f9af4253977b413c85e9483b86c756b1c05b788fef40769 engines a;b\n\
     game 1 1 2 Base;InProgress;Black[2];wS1;bS1 wS1-;wQ /wS1\nverdict 1 1 2 limit 3\n\
     game 2 2 1 Base;InProgress;Black[2];wS1;bS1 wS1-;wQ /wS1\nverdict 2 2 1 limit 3\n";
 
 /// The same, but the last line is cut.
 const CUT: &[u8] = b"Base;InProgress;White[2];wS1;bS1 wS1-\n\
     Base;InProgress;White[2];wS1;bS1 wS1/\n\n\
+    tournament 1 type Base depth 1 plies 3 repetition 0 rounds 1 gauntlet 0 openings 2 sha256 \
+    da6f8ce80ecc79d83f9af4253977b413c85e9483b86c756b1c05b788fef40769 engines a;b\n\
     game 1 1 2 Base;InProgress;Black[2];wS1;bS1 wS1-;wQ /wS1\nverdict 1 1 2 limit 3\n\
     game 2 2 1 Base;InProgress;Black[2];wS1;bS1 wS1-;wQ /wS1\nverdict 2 2 1 li";
 
+/// The openings, and the head of two rounds.
+const OTHER_ROUNDS: &[u8] = b"Base;InProgress;White[2];wS1;bS1 wS1-\n\
+    Base;InProgress;White[2];wS1;bS1 wS1/\n\n\
+    tournament 1 type Base depth 1 plies 3 repetition 0 rounds 2 gauntlet 0 openings 2 sha256 \
+    da6f8ce80ecc79d83f9af4253977b413c85e9483b86c756b1c05b788fef40769 engines a;b\n";
+
+/// The openings, and a part of the head of one round.
+const CUT_HEAD: &[u8] = b"Base;InProgress;White[2];wS1;bS1 wS1-\n\
+    Base;InProgress;White[2];wS1;bS1 wS1/\n\n\
+    tournament 1 type Base depth 1 plies 3 rep";
+
 /// The text of two rounds.
-const TEXT: &[u8] = b"game 1 1 2 Base;InProgress;Black[2];wS1;bS1 wS1-;wQ /wS1\n\
+const TEXT: &[u8] =
+    b"tournament 1 type Base depth 1 plies 3 repetition 0 rounds 2 gauntlet 0 openings 2 sha256 \
+    da6f8ce80ecc79d83f9af4253977b413c85e9483b86c756b1c05b788fef40769 engines a;b\n\
+    game 1 1 2 Base;InProgress;Black[2];wS1;bS1 wS1-;wQ /wS1\n\
     verdict 1 1 2 limit 3\n\
     game 2 2 1 Base;InProgress;Black[2];wS1;bS1 wS1-;wQ /wS1\nverdict 2 2 1 limit 3\n\
     game 3 1 2 Base;InProgress;Black[2];wS1;bS1 wS1/;wQ /wS1\nverdict 3 1 2 limit 3\n\
@@ -76,14 +95,20 @@ const TEXT: &[u8] = b"game 1 1 2 Base;InProgress;Black[2];wS1;bS1 wS1-;wQ /wS1\n
     b points 8 games 8 wins 0 draws 8 losses 0 forfeits 0\n";
 
 /// The text of one round after its second game.
-const BEHIND_TWO: &[u8] = b"game 3 1 2 Base;InProgress;Black[2];wS1;bS1 wS1/;wQ /wS1\n\
+const BEHIND_TWO: &[u8] =
+    b"tournament 1 type Base depth 1 plies 3 repetition 0 rounds 1 gauntlet 0 openings 2 sha256 \
+    da6f8ce80ecc79d83f9af4253977b413c85e9483b86c756b1c05b788fef40769 engines a;b\n\
+    game 3 1 2 Base;InProgress;Black[2];wS1;bS1 wS1/;wQ /wS1\n\
     verdict 3 1 2 limit 3\n\
     game 4 2 1 Base;InProgress;Black[2];wS1;bS1 wS1/;wQ /wS1\nverdict 4 2 1 limit 3\n\
     a points 4 games 4 wins 0 draws 4 losses 0 forfeits 0\n\
     b points 4 games 4 wins 0 draws 4 losses 0 forfeits 0\n";
 
 /// The text of one round after its first game.
-const BEHIND_ONE: &[u8] = b"game 2 2 1 Base;InProgress;Black[2];wS1;bS1 wS1-;wQ /wS1\n\
+const BEHIND_ONE: &[u8] =
+    b"tournament 1 type Base depth 1 plies 3 repetition 0 rounds 1 gauntlet 0 openings 2 sha256 \
+    da6f8ce80ecc79d83f9af4253977b413c85e9483b86c756b1c05b788fef40769 engines a;b\n\
+    game 2 2 1 Base;InProgress;Black[2];wS1;bS1 wS1-;wQ /wS1\n\
     verdict 2 2 1 limit 3\n\
     game 3 1 2 Base;InProgress;Black[2];wS1;bS1 wS1/;wQ /wS1\nverdict 3 1 2 limit 3\n\
     game 4 2 1 Base;InProgress;Black[2];wS1;bS1 wS1/;wQ /wS1\nverdict 4 2 1 limit 3\n\
@@ -149,5 +174,26 @@ fn a_game_whose_verdict_is_cut_is_played_again(rt: HostRuntime) -> Result<(), Fa
 fn an_opening_that_is_illegal_is_refused(rt: HostRuntime) -> Result<(), Fail> {
     let seen = play_over(&rt, rt.alloc(), TWO_ROUNDS, ILLEGAL, 8)?;
     expect_seen(&rt, &seen, Status::BadInput, b"bad line 2\n".as_slice(), 0);
+    Ok(())
+}
+
+#[test]
+fn the_head_of_another_tournament_is_refused(rt: HostRuntime) -> Result<(), Fail> {
+    let seen = play_over(&rt, rt.alloc(), RESUMED, OTHER_ROUNDS, 4)?;
+    expect_seen(
+        &rt,
+        &seen,
+        Status::BadInput,
+        b"bad line 4 other rounds\n".as_slice(),
+        0,
+    );
+    Ok(())
+}
+
+#[test]
+fn behind_a_head_that_is_cut_all_games_are_played(rt: HostRuntime) -> Result<(), Fail> {
+    let seen = play_over(&rt, rt.alloc(), RESUMED, CUT_HEAD, 4)?;
+    assert_eq!(&rt; seen.status, Status::Done);
+    assert_eq!(&rt; seen.spawner.closed().len(), 8);
     Ok(())
 }

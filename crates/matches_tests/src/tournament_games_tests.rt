@@ -37,8 +37,12 @@ const WHITE: &[u8] = b"id A\nok\nok\nwS1\nok\nok\n";
 /// What black says in it.
 const BLACK: &[u8] = b"id B\nok\nok\nok\n";
 
-/// The text of eight games of one ply.
-const TEXT: &[u8] = b"game 1 1 2 Base;InProgress;Black[1];wS1\nverdict 1 1 2 limit 1\n\
+/// The text of eight games of one ply. The sum is that of two lines `Base;NotStarted;White[1]`, by
+/// `sha256sum`.
+const TEXT: &[u8] =
+    b"tournament 1 type Base depth 1 plies 1 repetition 0 rounds 2 gauntlet 0 openings 2 sha256 \
+    9ae2cff1f0f5e5514c4eb58e1a17e1182d7fe15d944432bce5c6b6f369b0caf6 engines a;b\n\
+    game 1 1 2 Base;InProgress;Black[1];wS1\nverdict 1 1 2 limit 1\n\
     game 2 2 1 Base;InProgress;Black[1];wS1\nverdict 2 2 1 limit 1\n\
     game 3 1 2 Base;InProgress;Black[1];wS1\nverdict 3 1 2 limit 1\n\
     game 4 2 1 Base;InProgress;Black[1];wS1\nverdict 4 2 1 limit 1\n\
@@ -50,7 +54,10 @@ const TEXT: &[u8] = b"game 1 1 2 Base;InProgress;Black[1];wS1\nverdict 1 1 2 lim
     b points 8 games 8 wins 0 draws 8 losses 0 forfeits 0\n";
 
 /// The text if white's program of the third game does not start.
-const ABSENT: &[u8] = b"game 1 1 2 Base;InProgress;Black[1];wS1\nverdict 1 1 2 limit 1\n\
+const ABSENT: &[u8] =
+    b"tournament 1 type Base depth 1 plies 1 repetition 0 rounds 2 gauntlet 0 openings 2 sha256 \
+    9ae2cff1f0f5e5514c4eb58e1a17e1182d7fe15d944432bce5c6b6f369b0caf6 engines a;b\n\
+    game 1 1 2 Base;InProgress;Black[1];wS1\nverdict 1 1 2 limit 1\n\
     game 2 2 1 Base;InProgress;Black[1];wS1\nverdict 2 2 1 limit 1\n\
     game 3 1 2 Base;NotStarted;White[1]\nverdict 3 1 2 forfeit white nostart\n\
     game 4 2 1 Base;InProgress;Black[1];wS1\nverdict 4 2 1 limit 1\n\
@@ -62,7 +69,10 @@ const ABSENT: &[u8] = b"game 1 1 2 Base;InProgress;Black[1];wS1\nverdict 1 1 2 l
     a points 7 games 8 wins 0 draws 7 losses 1 forfeits 1\n";
 
 /// The text of the last two games, if six were drawn before.
-const RESUMED: &[u8] = b"game 7 1 2 Base;InProgress;Black[1];wS1\nverdict 7 1 2 limit 1\n\
+const RESUMED: &[u8] =
+    b"tournament 1 type Base depth 1 plies 1 repetition 0 rounds 2 gauntlet 0 openings 2 sha256 \
+    9ae2cff1f0f5e5514c4eb58e1a17e1182d7fe15d944432bce5c6b6f369b0caf6 engines a;b\n\
+    game 7 1 2 Base;InProgress;Black[1];wS1\nverdict 7 1 2 limit 1\n\
     game 8 2 1 Base;InProgress;Black[1];wS1\nverdict 8 2 1 limit 1\n\
     a points 8 games 8 wins 0 draws 8 losses 0 forfeits 0\n\
     b points 8 games 8 wins 0 draws 8 losses 0 forfeits 0\n";
@@ -149,7 +159,7 @@ fn games_that_were_played_count_and_are_not_played_again(rt: HostRuntime) -> Res
 fn a_write_of_the_output_fails(rt: HostRuntime) -> Result<(), Fail> {
     let alloc = rt.alloc();
     let tournament = tournament_of(alloc)?;
-    for (write, bytes, closed) in [(1, 0, 6), (2, 7, 6), (29, 193, 12)] {
+    for (write, bytes, closed) in [(1, 0, 0), (2, 7, 0), (25, 167, 6), (53, 360, 12)] {
         let links = links_of(alloc, WHITE, BLACK, 8)?;
         let seen = play_over(&rt, alloc, &tournament, &[], links, 0, write)?;
         expect_cut(&rt, &seen, TEXT, bytes, closed);

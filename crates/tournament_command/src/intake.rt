@@ -15,39 +15,48 @@ ghost use Rattle.std.specs.Prelude.{
 };
 ghost use Rattle.io_edge.specs.Lines.{Text, TooLong as LongLine, greatest_line};
 ghost use Rattle.tournament_core.specs.Schedules.{schedule};
+ghost use Rattle.tournament_command.specs.declared.format.Format.{Format as AnyFormat};
 ghost use Rattle.tournament_command.specs.Formats.{IsFormat, plan_of};
 ghost use Rattle.tournament_command.specs.Intakes.{
   before,
   next_fixture,
   nothing_read,
   take_game,
+  take_head,
   take_line,
   take_opening,
+  take_told,
   take_verdict,
   with_end,
+  with_head,
   with_opening,
 };
 ghost use Rattle.tournament_command.specs.Taking.{AreEngines, IsIntake, Refuses};
 ghost use Rattle.tournament_command.specs.declared.phase.Phase.TheVariants.{Openings};
 
-use crate::format::Format;
-use crate::lines::{ended_in, is_empty, is_game_line, opening_in};
+use crate::format::{Format, plan_of};
+use crate::heads::{HeadMatch, head_after, head_match};
+use crate::lines::{ended_in, is_empty, is_game_line, is_head_line, opening_in};
 use crate::phase::Phase;
-use crate::refused::Refused;
+use crate::refused::{LineFault, Refused};
+use cup::Program;
 use hive_model::{Game, MoveList};
 use std::alloc::{AllocError, Global};
 use std::marker::Model;
-use tournament_core::{Fixture, GameEnd, Plan};
+use tournament_core::{Fixture, GameEnd};
+use tournament_record::HeadParts;
 
 /// The most openings of a tournament.
 const MOST_OPENINGS: usize = 100_000;
 
-/// What was read of the input: how many lines; the moves of each opening; how the games that are
-/// told ended, in their order; and what the next line is to be.
+/// What was read of the input: how many lines; the moves of each opening, and behind them the head
+/// of their tournament; how the games that are told ended, in their order; and what the next line
+/// is to be.
 #[derive(Drop)]
 pub(crate) struct Intake {
     lines: u64,
     phase: Phase,
+    head: HeadParts,
     openings: Vec<MoveList>,
     ends: Vec<GameEnd>,
 }
@@ -60,23 +69,10 @@ impl Model for Intake {
     ghost view = { λ i. record {
       lines = i.lines;
       phase = i.phase;
+      head = i.head;
       openings = i.openings.items;
       ends = i.ends.items;
     } };
-}
-
-/// Who plays whom, where there are so many engines and these openings are given.
-pub(crate) fn plan_of(engines: u32, format: Format, openings: &[MoveList]) -> Plan
-    requires { length openings.now ≤ 100000 }
-    ensures { result ≡ plan_of format engines openings.now }
-{
-    let many = openings.len() as u32;
-    Plan {
-        engines,
-        rounds: format.rounds,
-        openings: if many == 0 { 1 } else { many },
-        gauntlet: format.gauntlet,
-    }
 }
 
 impl Intake {
@@ -87,6 +83,7 @@ impl Intake {
         Intake {
             lines: 0,
             phase: Phase::Openings,
+            head: HeadParts::new(alloc),
             openings: Vec::new(alloc),
             ends: Vec::new(alloc),
         }
@@ -107,6 +104,23 @@ impl Intake {
     {
         self.lines += 1;
         self.phase = phase;
+    }
+
+    /// The next line is not what it is to be.
+    fn bad_next(&self) -> Refused
+        requires { self.now.lines < 2 ^ 63 }
+        ensures { result ≡ Refused.Line (LineFault.Bad (self.now.lines + 1)) }
+    {
+        Refused::Line(LineFault::Bad {
+            number: self.lines + 1,
+        })
+    }
+
+    /// The last line is not what it is to be.
+    fn bad_last(&self) -> Refused
+        ensures { result ≡ Refused.Line (LineFault.Bad self.now.lines) }
+    {
+        Refused::Line(LineFault::Bad { number: self.lines })
     }
 
     /// The game that comes behind those that were told.
@@ -141,34 +155,49 @@ impl Intake {
         Ok(())
     }
 
+    /// The openings have ended, and this is the head of their tournament.
+    fn close_openings(&mut self, head: HeadParts)
+        requires { self.old.lines < 2 ^ 63 }
+        ensures { self.new ≡ with_head head self.old }
+    {
+        self.head = head;
+        self.pass(Phase::Head);
+    }
+
     /// Takes a line that is to be an opening.
     fn take_opening<G: Game + Drop>(
         &mut self,
         alloc: Global,
+        programs: &[Program],
         format: Format,
         text: &[u8],
     ) -> Result<(), Refused>
         requires room { self.old.lines < 2 ^ 63 }
         requires short { length text.now ≤ greatest_line }
-        ensures took { OnOk result (take_opening format self.old (Text text.now) ≡ Ok self.new) }
+        requires engines { AreEngines (length programs.now) }
+        requires format { IsFormat format }
+        requires valid { IsIntake (length programs.now) format self.old }
+        ensures took { OnOk result
+            (take_opening programs.now format self.old (Text text.now) ≡ Ok self.new) }
         ensures refused { IfErr result (λ why.
-            Refuses why (take_opening format self.old (Text text.now))) }
+            Refuses why (take_opening programs.now format self.old (Text text.now))) }
         ensures kept { OnOk result ((engines : ℕ) → IsIntake engines format self.old
             → self.old.phase ≡ Openings → IsIntake engines format self.new) }
     {
         if format.resume && is_empty(text) {
-            self.pass(Phase::Game);
+            let head = head_after::<G>(alloc, programs, format, self.openings.as_slice())?;
+            self.close_openings(head);
             return Ok(());
         }
         if self.openings.len() >= MOST_OPENINGS {
-            return Err(Refused::Line(self.lines + 1));
+            return Err(self.bad_next());
         }
         match opening_in::<G>(alloc, format.setup.game_type, text)? {
             Some(moves) => {
                 self.add_opening(moves)?;
                 Ok(())
             }
-            None => Err(Refused::Line(self.lines + 1)),
+            None => Err(self.bad_next()),
         }
     }
 
@@ -199,6 +228,30 @@ impl Intake {
             self.pass(Phase::Spoiled);
         }
         Ok(())
+    }
+
+    /// Takes a line that is to be the head.
+    fn take_head(&mut self, alloc: Global, text: &[u8]) -> Result<(), Refused>
+        requires room { self.old.lines < 2 ^ 63 }
+        ensures took { OnOk result (take_head self.old (Text text.now) ≡ Ok self.new) }
+        ensures refused { IfErr result (λ why. Refuses why (take_head self.old (Text text.now))) }
+        ensures kept { OnOk result ((engines : ℕ) → (format : AnyFormat)
+            → IsIntake engines format self.old → IsIntake engines format self.new) }
+    {
+        match head_match(alloc, self.head.items(), text)? {
+            HeadMatch::Same => {
+                self.pass(Phase::Game);
+                Ok(())
+            }
+            HeadMatch::Cut => {
+                self.pass(Phase::Spoiled);
+                Ok(())
+            }
+            HeadMatch::Other { topic } => Err(Refused::Line(LineFault::Other {
+                number: self.lines + 1,
+                topic,
+            })),
+        }
     }
 
     /// The next game ended so.
@@ -242,8 +295,8 @@ impl Intake {
         }
     }
 
-    /// Takes a further line.
-    pub(crate) fn take<G: Game + Drop>(
+    /// Takes a line that is to tell the next game, or is the head once more.
+    fn take_told(
         &mut self,
         alloc: Global,
         engines: u32,
@@ -251,27 +304,51 @@ impl Intake {
         text: &[u8],
     ) -> Result<(), Refused>
         requires room { self.old.lines < 2 ^ 63 }
-        requires short { length text.now ≤ greatest_line }
         requires engines { AreEngines engines }
         requires format { IsFormat format }
         requires valid { IsIntake engines format self.old }
-        ensures took { OnOk result
-            (take_line engines format self.old (Text text.now) ≡ Ok self.new) }
-        ensures refused { IfErr result (λ why.
-            Refuses why (take_line engines format self.old (Text text.now))) }
+        ensures took { OnOk result (take_told self.old (Text text.now)
+            (next_fixture engines format self.old) ≡ Ok self.new) }
+        ensures refused { IfErr result (λ why. Refuses why (take_told self.old (Text text.now)
+            (next_fixture engines format self.old))) }
         ensures valid { OnOk result (IsIntake engines format self.new) }
     {
+        if is_head_line(text) {
+            return self.take_head(alloc, text);
+        }
+        self.take_game(alloc, engines, format, text)?;
+        Ok(())
+    }
+
+    /// Takes a further line.
+    pub(crate) fn take<G: Game + Drop>(
+        &mut self,
+        alloc: Global,
+        programs: &[Program],
+        format: Format,
+        text: &[u8],
+    ) -> Result<(), Refused>
+        requires room { self.old.lines < 2 ^ 63 }
+        requires short { length text.now ≤ greatest_line }
+        requires engines { AreEngines (length programs.now) }
+        requires format { IsFormat format }
+        requires valid { IsIntake (length programs.now) format self.old }
+        ensures took { OnOk result
+            (take_line programs.now format self.old (Text text.now) ≡ Ok self.new) }
+        ensures refused { IfErr result (λ why.
+            Refuses why (take_line programs.now format self.old (Text text.now))) }
+        ensures valid { OnOk result (IsIntake (length programs.now) format self.new) }
+    {
+        let engines = programs.len() as u32;
         match self.phase {
-            Phase::Openings => self.take_opening::<G>(alloc, format, text),
-            Phase::Game => {
-                self.take_game(alloc, engines, format, text)?;
-                Ok(())
-            }
+            Phase::Openings => self.take_opening::<G>(alloc, programs, format, text),
+            Phase::Head => self.take_head(alloc, text),
+            Phase::Game => self.take_told(alloc, engines, format, text),
             Phase::Verdict => {
                 self.take_verdict(alloc, engines, format, text)?;
                 Ok(())
             }
-            Phase::Spoiled => Err(Refused::Line(self.lines)),
+            Phase::Spoiled => Err(self.bad_last()),
         }
     }
 
@@ -292,27 +369,28 @@ impl Intake {
     }
 
     /// Takes a further line that is too long.
-    pub(crate) fn take_long(&mut self, engines: u32, format: Format) -> Result<(), Refused>
+    pub(crate) fn take_long(&mut self, programs: &[Program], format: Format) -> Result<(), Refused>
         requires room { self.old.lines < 2 ^ 63 }
-        requires engines { AreEngines engines }
+        requires engines { AreEngines (length programs.now) }
         requires format { IsFormat format }
-        requires valid { IsIntake engines format self.old }
-        ensures took { OnOk result (take_line engines format self.old LongLine ≡ Ok self.new) }
+        requires valid { IsIntake (length programs.now) format self.old }
+        ensures took { OnOk result (take_line programs.now format self.old LongLine ≡ Ok self.new) }
         ensures refused { IfErr result (λ why.
-            Refuses why (take_line engines format self.old LongLine)) }
-        ensures valid { OnOk result (IsIntake engines format self.new) }
+            Refuses why (take_line programs.now format self.old LongLine)) }
+        ensures valid { OnOk result (IsIntake (length programs.now) format self.new) }
     {
         match self.phase {
-            Phase::Openings => Err(Refused::Line(self.lines + 1)),
+            Phase::Openings => Err(self.bad_next()),
+            Phase::Head => Err(self.bad_next()),
             Phase::Game => {
-                self.take_long_game(engines, format);
+                self.take_long_game(programs.len() as u32, format);
                 Ok(())
             }
             Phase::Verdict => {
                 self.pass(Phase::Spoiled);
                 Ok(())
             }
-            Phase::Spoiled => Err(Refused::Line(self.lines)),
+            Phase::Spoiled => Err(self.bad_last()),
         }
     }
 }

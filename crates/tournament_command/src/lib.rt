@@ -3,6 +3,7 @@
 #![tactic(auto)]
 
 mod format;
+mod heads;
 mod intake;
 mod lines;
 mod phase;

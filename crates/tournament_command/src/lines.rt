@@ -15,11 +15,12 @@ ghost use Rattle.hive_model.specs.Games.{IsGame};
 ghost use Rattle.io_edge.specs.Lines.{Text, greatest_line};
 ghost use Rattle.command_runs.specs.OneGame.{if_open};
 ghost use Rattle.tournament_games.specs.Texts.{numbers_text};
-ghost use Rattle.tournament_games.specs.Tournaments.{IsOpening};
+ghost use Rattle.tournament_record.specs.Openings.{IsOpening};
 ghost use Rattle.tournament_command.specs.Intakes.{
   ended_in,
   is_empty,
   is_game_line,
+  is_head_line,
   opening_in,
   typed_moves,
 };
@@ -37,6 +38,13 @@ pub(crate) fn is_empty(text: &[u8]) -> bool
     ensures { result ≡ is_empty (Text text.now) }
 {
     text == b"".as_slice()
+}
+
+/// Whether the line is a head, of this tournament or of another one.
+pub(crate) fn is_head_line(text: &[u8]) -> bool
+    ensures { result ≡ is_head_line (Text text.now) }
+{
+    text.starts_with(b"tournament ".as_slice())
 }
 
 /// A word, and behind it the number of a game and those of its engines, each with a space.

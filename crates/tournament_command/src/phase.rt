@@ -6,7 +6,9 @@ pub(crate) enum Phase {
     /// An opening; where games that were played before are handed in, it may be the empty line that
     /// ends the openings.
     Openings,
-    /// The line of the next game that was played before.
+    /// The head of the tournament.
+    Head,
+    /// The line of the next game that was played before, or the head once more.
     Game,
     /// The line of the verdict of that game.
     Verdict,

@@ -4,12 +4,11 @@ ghost use Rattle.std.specs.List.{All};
 ghost use Rattle.io_edge.specs.Outside.{HasCause};
 ghost use Rattle.command_runs.specs.World.{Times, sides, world};
 ghost use Rattle.match_command.specs.Match.{NoneIsOpen};
-ghost use Rattle.tournament_games.specs.Tournaments.{IsOpening};
+ghost use Rattle.tournament_record.specs.Openings.{IsOpening};
 ghost use Rattle.tournament_command.specs.Formats.{IsFormat, openings_of, terms_of};
 ghost use Rattle.tournament_command.specs.Reads.{ReadTournamentRun};
 
-use crate::format::Format;
-use crate::intake::plan_of;
+use crate::format::{Format, plan_of};
 use crate::reading::read_intake;
 use command_runs::{Status, tell_none};
 use cup::Program;
@@ -54,23 +53,26 @@ fn tournament_of(
 /// Reads the input of a tournament to its end, and plays the tournament of these programs, as
 /// `play_tournament` does.
 ///
-/// Each line of the input is the game string of an opening: a game of the type of the setup that is
-/// not over. There are at most 100,000. Where there is none, the games begin with no move.
+/// Each line of the input is the game string of an opening: a game of the setup's type that is not
+/// over. There are at most 100,000. If there is none, the games begin with no move.
 ///
-/// Where games that were played before are handed in, an empty line ends the openings, and the
-/// lines behind it are those that an earlier run of the same tournament has written, two for each
-/// game. Each whole game that they tell, its line and its verdict, counts as played, with the
-/// outcome that its verdict tells, and the tournament goes on behind the last one. The last line
-/// may be cut, or be another one: the game to which it belongs is played again. What stands behind
-/// all games of the tournament, as its standings, is left aside.
+/// If earlier games are handed in, an empty line ends the openings. The lines after it are what
+/// earlier runs of this tournament wrote: its head, and two lines for each game. A whole game, its
+/// line and its verdict, counts as played, with the outcome of its verdict. The tournament goes on
+/// after the last one. The head may occur once more before each game. The last line may be cut, or
+/// be another one: its game is played again. Lines after all games, such as the standings, are not
+/// used.
 ///
-/// The input is read to its end before a program is started. Where a line is something else, the
-/// text is `bad line N`, where N is its number, from 1 on, and it is `BadInput`; a line that is to
-/// tell a game and does not is refused where another line follows it, and no line behind that one
-/// is read. A read that fails (`ReadFault`), a full input (`InputFull`) and want of memory before
-/// the first program (`Memory`) end the run with nothing written. In each of these cases no program
-/// is started; nor where the line could not be written (`WriteFault`). Else it ends as
-/// `play_tournament` does.
+/// The input is read to its end before a program is started. If a line is something else, the run
+/// is `BadInput` and the text is `bad line N`, where N is its number, counted from 1. A line that
+/// has to describe a game and does not is refused only if another line follows it. No line after
+/// that one is read. The head of another tournament is refused as `bad line N other WORD`, with the
+/// first word that differs.
+///
+/// If a read fails (`ReadFault`), the input is full (`InputFull`) or memory runs out before the
+/// first program (`Memory`), nothing is written. In each of these cases no program is started, and
+/// also none if the line could not be written (`WriteFault`). Otherwise the run ends like that of
+/// `play_tournament`.
 ///
 /// There are 2 to 64 programs. A format has 1 to 10,000 rounds, and 1 to 64 games at once.
 pub fn play_read_tournament<
@@ -102,7 +104,7 @@ pub fn play_read_tournament<
     ensures reads { HasCause (result ≡ Status.ReadFault) (S.read_faults input.old)
         (S.read_faults input.new) }
 {
-    match read_intake::<S, G>(alloc, programs.len() as u32, format, input) {
+    match read_intake::<S, G>(alloc, programs.as_slice(), format, input) {
         Ok(intake) => {
             let (openings, ends) = intake.parts();
             let Ok(tournament) = tournament_of(alloc, programs, format, openings) else {

@@ -6,6 +6,7 @@ ghost use Rattle.std.specs.Prelude.{
   ◌^◌,
   ℕ,
   List,
+  length,
   Ok,
   Err,
   IfOk,
@@ -30,18 +31,34 @@ ghost use Rattle.tournament_command.specs.Taking.{
 
 use crate::format::Format;
 use crate::intake::Intake;
-use crate::refused::Refused;
+use crate::refused::{LineFault, Refused};
 use command_runs::{NoGame, line_for, numbered};
+use cup::Program;
 use hive_model::{Game, ReplyText};
 use io_edge::Source;
 use line_feed::{LineAnswer, LineReader};
 use std::alloc::{AllocError, Global};
 
-/// The line that refuses the line with this number, its LF included.
-fn refusal_line(alloc: Global, number: u64) -> Result<ReplyText, AllocError>
-    ensures { IfOk result (λ text. text ≡ bad_line (refusal number)) }
+/// Why a line is refused.
+fn refusal(alloc: Global, fault: LineFault) -> Result<ReplyText, AllocError>
+    ensures { IfOk result (λ text. text ≡ refusal fault) }
 {
-    let why = numbered(alloc, b"line ", number)?;
+    match fault {
+        LineFault::Bad { number } => numbered(alloc, b"line ", number),
+        LineFault::Other { number, topic } => {
+            let mut why = numbered(alloc, b"line ", number)?;
+            why.push_all(b" other ")?;
+            why.push_all(topic.word())?;
+            Ok(why)
+        }
+    }
+}
+
+/// The line that refuses a line, its LF included.
+fn refusal_line(alloc: Global, fault: LineFault) -> Result<ReplyText, AllocError>
+    ensures { IfOk result (λ text. text ≡ bad_line (refusal fault)) }
+{
+    let why = refusal(alloc, fault)?;
     line_for(alloc, b"bad ", why.items())
 }
 
@@ -50,7 +67,7 @@ fn none_for(alloc: Global, why: Refused) -> NoGame
     ensures { SaysWhy result why }
 {
     match why {
-        Refused::Line(number) => match refusal_line(alloc, number) {
+        Refused::Line(fault) => match refusal_line(alloc, fault) {
             Ok(text) => NoGame::Bad(text),
             Err(_) => NoGame::Memory,
         },
@@ -61,33 +78,33 @@ fn none_for(alloc: Global, why: Refused) -> NoGame
 /// Reads and takes the next line; it says whether there was one.
 fn take_next<S: Source, G: Game + Drop>(
     alloc: Global,
-    engines: u32,
+    programs: &[Program],
     format: Format,
     reader: &mut LineReader,
     input: &mut S,
     intake: &mut Intake,
 ) -> Result<bool, NoGame>
     requires room { intake.old.lines < 2 ^ 63 }
-    requires engines { AreEngines engines }
+    requires engines { AreEngines (length programs.now) }
     requires format { IsFormat format }
-    requires valid { IsIntake engines format intake.old }
+    requires valid { IsIntake (length programs.now) format intake.old }
     ensures given { (bytes : List ℕ)
         × WereTaken bytes reader.old reader.new (S.rest input.old) (S.rest input.new)
         × MatchResult result
-        (λ more. TakesNext engines format intake.old intake.new more bytes
+        (λ more. TakesNext programs.now format intake.old intake.new more bytes
         reader.old reader.new (S.rest input.new))
-        (λ none. TakesNone engines format intake.old none bytes
+        (λ none. TakesNone programs.now format intake.old none bytes
         reader.old reader.new (S.rest input.new)) }
-    ensures valid { OnOk result (IsIntake engines format intake.new) }
+    ensures valid { OnOk result (IsIntake (length programs.now) format intake.new) }
     ensures cause { HasCause (result ≡ Err NoGame.ReadFault) (S.read_faults input.old)
         (S.read_faults input.new) }
 {
     match reader.next_line(input) {
-        LineAnswer::Line => match intake.take::<G>(alloc, engines, format, reader.line()) {
+        LineAnswer::Line => match intake.take::<G>(alloc, programs, format, reader.line()) {
             Ok(()) => Ok(true),
             Err(why) => Err(none_for(alloc, why)),
         },
-        LineAnswer::TooLong => match intake.take_long(engines, format) {
+        LineAnswer::TooLong => match intake.take_long(programs, format) {
             Ok(()) => Ok(true),
             Err(why) => Err(none_for(alloc, why)),
         },
@@ -101,17 +118,17 @@ fn take_next<S: Source, G: Game + Drop>(
 /// reading.
 pub(crate) fn read_intake<S: Source, G: Game + Drop>(
     alloc: Global,
-    engines: u32,
+    programs: &[Program],
     format: Format,
     input: &mut S,
 ) -> Result<Intake, NoGame>
-    requires engines { AreEngines engines }
+    requires engines { AreEngines (length programs.now) }
     requires format { IsFormat format }
     ensures told { IfOk result (λ intake. WhereTold (S.rest input.old)
-        (λ bytes. IsTold engines format bytes (S.rest input.new) intake)) }
-    ensures valid { IfOk result (λ intake. IsIntake engines format intake) }
+        (λ bytes. IsTold programs.now format bytes (S.rest input.new) intake)) }
+    ensures valid { IfOk result (λ intake. IsIntake (length programs.now) format intake) }
     ensures none { IfErr result (λ none. WhereTold (S.rest input.old)
-        (λ bytes. IsUnanswered (about_tournament engines format) none bytes
+        (λ bytes. IsUnanswered (about_tournament programs.now format) none bytes
         (S.rest input.new))) }
     ensures cause { HasCause (result ≡ Err NoGame.ReadFault) (S.read_faults input.old)
         (S.read_faults input.new) }
@@ -121,7 +138,7 @@ pub(crate) fn read_intake<S: Source, G: Game + Drop>(
     };
     let mut intake = Intake::new(alloc);
     'lines: loop {
-        match take_next::<S, G>(alloc, engines, format, &mut reader, input, &mut intake) {
+        match take_next::<S, G>(alloc, programs, format, &mut reader, input, &mut intake) {
             Ok(more) => {
                 if !more {
                     return Ok(intake);

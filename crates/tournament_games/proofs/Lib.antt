@@ -3,3 +3,4 @@ mod Steps
 mod Waves
 mod Runs
 mod EndTexts
+mod Heads

@@ -24,7 +24,7 @@ use Rattle.tournament_core.specs.Counts.{Counts, IsTallyOf}
 use Rattle.tournament_games.specs.Tournaments.{Terms}
 use Rattle.tournament_core.proofs.Tallies.{points-add-up}
 use Rattle.tournament_games.specs.Games.{Job, played_game}
-use Rattle.tournament_games.specs.Waves.{AreNoted, ArePlayed, CutInGames, CutWave, GamesRun, IsPlayedOut, NoWave, Starved, StandingsRun, TournamentRun, WaveRun, WroteGames, WroteWave, all_games, games_text, resumed, standings_text}
+use Rattle.tournament_games.specs.Waves.{AreNoted, ArePlayed, CutInGames, CutWave, GamesRun, IsPlayedOut, NoWave, Starved, StandingsRun, HeadedRun, WaveRun, WroteGames, WroteWave, all_games, games_text, resumed, standings_text}
 use Rattle.tournament_games.proofs.Starts.{shuts-links}
 use Rattle.tournament_games.proofs.Waves.{notes-append, played-append, played-none, played-open, shut-open, text-append}
 
@@ -138,7 +138,7 @@ ends-games t first done count olds news tally0 tally now InputFull a b c at few 
 -- Behind the last game
 
 -- the games were not all played
-pub ends-run : (t : Terms) (ends : List GameEnd) (tally0 tally : Counts) (status : Status) (a b : World) → status ≢ Done → GamesRun t (length ends) tally0 tally status a b → TournamentRun t ends status a b
+pub ends-run : (t : Terms) (ends : List GameEnd) (tally0 tally : Counts) (status : Status) (a b : World) → status ≢ Done → GamesRun t (length ends) tally0 tally status a b → HeadedRun t ends status a b
 ends-run t ends tally0 tally Done a b other g = absurd (other refl)
 ends-run t ends tally0 tally WriteFault a b other g = inl g
 ends-run t ends tally0 tally Memory a b other g = g
@@ -173,7 +173,7 @@ played-out t ends olds news places tally0 tally a b all engines before so noted 
 
 -- the games were all played, and the standings were to be written
 pub tells-run : (t : Terms) (ends : List GameEnd) (tally0 tally : Counts) (status : Status) (a b : World) (written : Told) → tally.engines ≡ t.plan.engines → IsTallyOf (resumed t.plan ends) tally0 → GamesRun t (length ends) tally0 tally Done a b → StandingsRun t tally status b.sides.written written
-    → TournamentRun t ends status a (world (sides b.sides.rest written) b.times b.engines)
+    → HeadedRun t ends status a (world (sides b.sides.rest written) b.times b.engines)
 tells-run t ends tally0 tally Done a b written engines before (olds, news, all, so) w = (
   olds,
   news,
@@ -212,7 +212,7 @@ tells-run t ends tally0 tally BadInput a b written engines before g w = absurd w
 tells-run t ends tally0 tally InputFull a b written engines before g w = absurd w
 
 -- nothing was played
-pub starved-first : (t : Terms) (ends : List GameEnd) (a : World) → a.sides.written ≡ behind a.sides.written [] → TournamentRun t ends Memory a a
+pub starved-first : (t : Terms) (ends : List GameEnd) (a : World) → a.sides.written ≡ behind a.sides.written [] → HeadedRun t ends Memory a a
 starved-first t ends a same = (
   [],
   [],

@@ -1,10 +1,7 @@
 -- What a tournament is played by.
 use Rattle.std.specs.Prelude.{◌≡◌, ℕ, ◌≤◌, List, [], length, slice_get, unwrap_or}
 use Rattle.std.specs.List.{All}
-use Rattle.hive_model.specs.declared.pieces.GameType.{GameType}
 use Rattle.hive_model.specs.declared.places.Move.{Move}
-use Rattle.hive_model.specs.Games.{IsGame}
-use Rattle.hive_model.specs.Courses.{most_plies}
 use Rattle.match_core.specs.declared.setup.Setup.{Setup}
 use Rattle.match_core.specs.Setups.{FullSetup, setup_from}
 use Rattle.match_core.specs.Keeps.{IsSetup}
@@ -12,6 +9,9 @@ use Rattle.cup.specs.Engines.{Engine}
 use Rattle.tournament_core.specs.declared.fixtures.Fixture.{Fixture}
 use Rattle.tournament_core.specs.declared.plan.Plan.{Plan}
 use Rattle.tournament_core.specs.Schedules.{IsPlan}
+use Rattle.tournament_record.specs.declared.parts.HeadPart.{HeadPart}
+use Rattle.tournament_record.specs.Heads.{head, head_text}
+use Rattle.tournament_record.specs.Openings.{IsOpening}
 
 -- what a tournament is played by: its programs, who plays whom and how often, how the matches are
 -- played, the moves of each opening, and how many games are played at once
@@ -31,11 +31,6 @@ terms engines plan setup openings at_once = record {
   at_once = at_once;
 }
 
--- the moves of an opening are a game, of no more plies than there is room for in a game
-pub record IsOpening (game_type : GameType) (moves : List Move) : Type 0 where
-  pub game : IsGame game_type moves
-  pub few : length moves ≤ most_plies
-
 -- what holds of every tournament: the plan is for its programs and its openings, each of which is a
 -- game of the setup's type; 1 to 64 games are played at once
 pub record IsTerms (t : Terms) : Type 0 where
@@ -54,3 +49,11 @@ begin_of t f = unwrap_or (slice_get t.openings f.opening) []
 -- what the match of a game is played by
 abbrev pub setup_in : Terms → Fixture → FullSetup
 setup_in t f = setup_from t.setup (begin_of t f)
+
+-- the parts of its head
+abbrev pub head_of : Terms → List HeadPart
+head_of t = head t.engines t.plan t.setup t.openings
+
+-- the line of its head, with its LF
+abbrev pub head_line : Terms → List ℕ
+head_line t = head_text (head_of t)

@@ -4,7 +4,7 @@ use Rattle.std.specs.Prelude.{◌≡◌, ◌⊎◌, ℕ, ◌+◌, ◌*◌, ◌<�
 use Rattle.std.specs.List.{All, AllZip, flat_map, sum_by, zip}
 use Rattle.io_edge.specs.Outside.{Told, behind}
 use Rattle.io_edge.specs.Starts.{Engines}
-use Rattle.command_runs.specs.World.{World}
+use Rattle.command_runs.specs.World.{LeavesEngines, World, sides, world}
 use Rattle.command_runs.specs.declared.status.Status.{Status}
 use Rattle.command_runs.specs.declared.status.Status.TheVariants.{Done, Refused, Usage, ReadFault, WriteFault, SpawnFault, BadInput, Memory, InputFull}
 use Rattle.cup_command.specs.Cup.{started_after}
@@ -15,7 +15,7 @@ use Rattle.tournament_core.specs.declared.standing.Standing.{Standing as Place}
 use Rattle.tournament_core.specs.Schedules.{numbers, schedule}
 use Rattle.tournament_core.specs.Ends.{AreStandings, PlayedFixture, points}
 use Rattle.tournament_core.specs.Counts.{Counts, IsTallyOf}
-use Rattle.tournament_games.specs.Tournaments.{Terms}
+use Rattle.tournament_games.specs.Tournaments.{Terms, head_line}
 use Rattle.tournament_games.specs.Texts.{standing_text}
 use Rattle.tournament_games.specs.Games.{AreNext, IsPlayed, IsSameGame, Job, played_game, told_text}
 use Rattle.tournament_games.specs.Links.{CountsFaults, IsFreshJob, Shuts, absences, all_links, job_words}
@@ -223,12 +223,12 @@ StandingsRun t tally SpawnFault before after = ⊥
 StandingsRun t tally BadInput before after = ⊥
 StandingsRun t tally InputFull before after = ⊥
 
--- What was written, played and started where a tournament ends with this status, of which the first
--- games ended so before. Six statuses are not its own.
-abbrev pub TournamentRun : Terms → List GameEnd → Status → World → World → Type 0
-TournamentRun t ends Done before after =
+-- What was written, played and started behind the head, where a tournament ends with this status,
+-- of which the first games ended so before. Six statuses are not its own.
+abbrev pub HeadedRun : Terms → List GameEnd → Status → World → World → Type 0
+HeadedRun t ends Done before after =
     (olds news : List Job) × (places : List Place) × Tells t ends olds news places before after
-TournamentRun t ends WriteFault before after =
+HeadedRun t ends WriteFault before after =
     ((olds whole cut : List Job)
     × (n : ℕ)
     × CutInGames t (length ends) olds whole cut n before after)
@@ -236,13 +236,47 @@ TournamentRun t ends WriteFault before after =
     × (places : List Place)
     × (n : ℕ)
     × CutInStandings t ends olds news places n before after)
-TournamentRun t ends Memory before after =
+HeadedRun t ends Memory before after =
     (olds news : List Job)
     × (between : Engines)
     × Starved t (length ends) olds news between before after
-TournamentRun t ends Refused before after = ⊥
-TournamentRun t ends Usage before after = ⊥
-TournamentRun t ends ReadFault before after = ⊥
-TournamentRun t ends SpawnFault before after = ⊥
-TournamentRun t ends BadInput before after = ⊥
-TournamentRun t ends InputFull before after = ⊥
+HeadedRun t ends Refused before after = ⊥
+HeadedRun t ends Usage before after = ⊥
+HeadedRun t ends ReadFault before after = ⊥
+HeadedRun t ends SpawnFault before after = ⊥
+HeadedRun t ends BadInput before after = ⊥
+HeadedRun t ends InputFull before after = ⊥
+
+-- the world once the head was written
+abbrev pub once_headed : Terms → World → World
+once_headed t w =
+    world (sides w.sides.rest (behind w.sides.written (head_line t))) w.times w.engines
+
+-- of the head the first n bytes were written, and not all; no program was started
+pub record CutHead (t : Terms) (n : ℕ) (before after : World) : Type 0 where
+  pub part : n < length (head_line t)
+  pub wrote : after.sides.written ≡ behind before.sides.written (take n (head_line t))
+  pub unstarted : LeavesEngines before after
+
+-- memory was wanting before anything was written, and no program was started
+pub record NoneTold (before after : World) : Type 0 where
+  pub unwritten : after.sides.written ≡ before.sides.written
+  pub unstarted : LeavesEngines before after
+
+-- the head was not written whole
+abbrev pub HeadlessRun : Terms → Status → World → World → Type 0
+HeadlessRun t WriteFault before after = (n : ℕ) × CutHead t n before after
+HeadlessRun t Memory before after = NoneTold before after
+HeadlessRun t Done before after = ⊥
+HeadlessRun t Refused before after = ⊥
+HeadlessRun t Usage before after = ⊥
+HeadlessRun t ReadFault before after = ⊥
+HeadlessRun t SpawnFault before after = ⊥
+HeadlessRun t BadInput before after = ⊥
+HeadlessRun t InputFull before after = ⊥
+
+-- What was written, played and started where a tournament ends with this status, of which the first
+-- games ended so before: the head comes first.
+abbrev pub TournamentRun : Terms → List GameEnd → Status → World → World → Type 0
+TournamentRun t ends status before after =
+    HeadedRun t ends status (once_headed t before) after ⊎ HeadlessRun t status before after

@@ -1,6 +1,6 @@
 //! Openings.
 ghost use Rattle.std.specs.Prelude.{◌≡◌, IfOk};
-ghost use Rattle.tournament_games.specs.Tournaments.{IsOpening};
+ghost use Rattle.tournament_record.specs.Openings.{IsOpening};
 
 use hive_model::{Game, MoveList};
 use std::alloc::{AllocError, Global};

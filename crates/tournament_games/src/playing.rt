@@ -6,9 +6,11 @@ ghost use Rattle.match_command.specs.Match.{NoneIsOpen};
 ghost use Rattle.tournament_core.specs.Schedules.{IsPlan, schedule};
 ghost use Rattle.tournament_core.specs.Counts.{IsTallyOf};
 ghost use Rattle.tournament_core.specs.declared.standing.Standing.{Standing as AnyPlace};
+ghost use Rattle.tournament_games.specs.Tournaments.{head_line};
 ghost use Rattle.tournament_games.specs.Waves.{
   AreNoted,
   GamesRun,
+  HeadedRun,
   StandingsRun,
   TournamentRun,
   WaveRun,
@@ -26,6 +28,7 @@ use std::alloc::{AllocError, Global};
 use std::thread::Threads;
 use tournament_core::{GameEnd, Plan, Tally, standings};
 use tournament_edge::{Clocks, Progress};
+use tournament_record::{head_of, head_text};
 
 /// A tally of the games that were played before, the first ones of the plan.
 fn resume(alloc: Global, plan: Plan, ends: &[GameEnd]) -> Result<Tally, AllocError>
@@ -173,39 +176,96 @@ fn write_standings<K: Sink>(
     }
 }
 
+/// Plays the games that are left, and writes their lines and the standings, behind the head.
+fn play_headed<
+    R: Threads + Sync,
+    P: Spawner,
+    K: Sink,
+    G: Game + Send + Drop,
+    M: Clocks + Progress + Sync,
+>(
+    rt: &R,
+    alloc: Global,
+    tournament: &Tournament,
+    played: &[GameEnd],
+    output: &mut K,
+    spawner: &mut P,
+    clocks: &M,
+) -> Status
+    requires { length played.now ≤ length (schedule tournament.now.plan) }
+    ensures run { (rest : Told) (times : Times) →
+        HeadedRun tournament.now played.now result
+        (world (sides rest (K.written output.old)) times (P.engines spawner.old))
+        (world (sides rest (K.written output.new)) times (P.engines spawner.new)) }
+    ensures closed { NoneIsOpen (P.engines spawner.old) (P.engines spawner.new) }
+    ensures cause { HasCause (result ≡ Status.WriteFault) (K.write_faults output.old)
+        (K.write_faults output.new) }
+{
+    let plan = tournament.plan();
+    let games = plan.games();
+    let Ok(mut tally) = resume(alloc, plan, played) else {
+        return Status::Memory;
+    };
+    let first = played.len() as u64;
+    match write_games::<R, P, K, G, M>(
+        rt, alloc, tournament, clocks, games, first, &mut tally, output, spawner,
+    ) {
+        Status::Done => write_standings(alloc, tournament, &tally, output),
+        fault => fault,
+    }
+}
+
+/// The line of the head, with its LF.
+fn head_line<G: Game + Drop>(
+    alloc: Global,
+    tournament: &Tournament,
+) -> Result<ReplyText, AllocError>
+    ensures { IfOk result (λ text. text ≡ head_line tournament.now) }
+{
+    let parts = head_of::<G>(
+        alloc,
+        tournament.programs(),
+        tournament.plan(),
+        tournament.setup(),
+        tournament.openings(),
+    )?;
+    head_text(alloc, parts.items())
+}
+
 /// Plays a tournament and tells it.
 ///
-/// The games are those of the plan, in its order, without the first ones, which were played before
-/// and ended as is given. They are played in waves of as many games as are played at once, the last
-/// one perhaps of fewer. For each game of a wave white's program is started and then black's, each
-/// by its words; a program that cannot be started forfeits that game for its engine, and where
-/// white's cannot, black's is not started. Then the games are played at once where threads can be
-/// had, each over its own two links and a clock of its own, from the moves of its opening. Then the
-/// programs of the wave are closed, in the order of their starts, and the lines of its games are
-/// written at once, in the order of the games:
+/// The head is written first, a line that says which tournament it is. The games follow in the
+/// order of the plan, without the first ones, which were played before and ended as given. They are
+/// played in waves of as many games as are played at once. The last wave may have fewer.
+///
+/// For each game of a wave white's program is started and then black's, each by its words. A
+/// program that cannot be started forfeits that game. If white's cannot, black's is not started.
+/// Then the games are played at once, if threads can be had. Each has two links and a clock of its
+/// own, and begins with the moves of its opening. Then the programs of the wave are closed, in the
+/// order of their starts, and the lines of its games are written, in the order of the games:
 ///
 /// ```text
 /// game N I J GAMESTRING
 /// verdict N I J VERDICT
 /// ```
 ///
-/// N is the game's number in the plan, from 1 on, I white's engine and J black's. The verdict is
-/// told as that of a match, or as `forfeit white nostart` or `forfeit black nostart`. Behind the
-/// last game the standings follow, a line for each engine in their order, where TEXT names its
-/// program:
+/// N is the game's number in the plan, counted from 1. I is white's engine and J black's. The
+/// verdict is that of a match, or `forfeit white nostart` or `forfeit black nostart`. After the
+/// last game the standings follow, a line for each engine in their order. TEXT names its program:
 ///
 /// ```text
 /// TEXT points A games B wins C draws D losses E forfeits F
 /// ```
 ///
-/// Only a tally is kept of the games of earlier waves, so that neither memory nor open programs
-/// grow with the number of games. Each program that was started is closed before the call returns.
-/// Behind each wave, once its lines were written, `Progress` shows how far the tournament is.
+/// Only a tally is kept of the games of earlier waves, so neither memory nor open programs grow
+/// with the number of games. Each program that was started is closed before the call returns. After
+/// each wave, once its lines were written, `Progress` shows how far the tournament is.
 ///
-/// `Done` says that the whole text was written. `WriteFault` says that a write has failed: the
-/// lines of earlier waves were written, and of those of the last wave, or of the standings, a front
-/// and not all. `Memory` says that memory was wanting: the lines of the waves so far were written.
-/// No other status is answered.
+/// `Done` says that the whole text was written. `WriteFault` says that a write has failed: of the
+/// head a front was written, and no program was started; or the head and the lines of earlier waves
+/// were written, and of those of the last wave, or of the standings, a front and not all. `Memory`
+/// says that memory was wanting: nothing was written, or the head and the lines of the waves so
+/// far. No other status is answered.
 pub fn play_tournament<
     R: Threads + Sync,
     P: Spawner,
@@ -230,16 +290,13 @@ pub fn play_tournament<
     ensures cause { HasCause (result ≡ Status.WriteFault) (K.write_faults output.old)
         (K.write_faults output.new) }
 {
-    let plan = tournament.plan();
-    let games = plan.games();
-    let Ok(mut tally) = resume(alloc, plan, played) else {
+    let Ok(head) = head_line::<G>(alloc, tournament) else {
         return Status::Memory;
     };
-    let first = played.len() as u64;
-    match write_games::<R, P, K, G, M>(
-        rt, alloc, tournament, clocks, games, first, &mut tally, output, spawner,
-    ) {
-        Status::Done => write_standings(alloc, tournament, &tally, output),
+    match end_with(head.items(), Status::Done, output) {
+        Status::Done => play_headed::<R, P, K, G, M>(
+            rt, alloc, tournament, played, output, spawner, clocks,
+        ),
         fault => fault,
     }
 }

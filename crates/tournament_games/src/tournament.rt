@@ -1,9 +1,11 @@
 //! What a tournament is played by.
 ghost use Rattle.std.specs.Prelude.{◌≡◌, ◌≤◌, length};
+ghost use Rattle.std.specs.List.{All};
 ghost use Rattle.hive_model.specs.Games.{IsGame};
 ghost use Rattle.hive_model.specs.Courses.{most_plies};
 ghost use Rattle.match_core.specs.Keeps.{IsSetup};
 ghost use Rattle.tournament_core.specs.Schedules.{IsPlan};
+ghost use Rattle.tournament_record.specs.Openings.{IsOpening};
 ghost use Rattle.tournament_games.specs.Tournaments.{IsTerms, begin_of, terms};
 
 use cup::Program;
@@ -80,6 +82,14 @@ impl Tournament {
         ensures valid { IsSetup result }
     {
         self.setup
+    }
+
+    /// The moves of each opening.
+    pub(crate) fn openings(&self) -> &[MoveList]
+        ensures value { result.now ≡ self.now.openings }
+        ensures each { All (IsOpening self.now.setup.game_type) result.now }
+    {
+        self.openings.as_slice()
     }
 
     /// How many games are played at once, at most.

@@ -6,5 +6,5 @@ returns-in-Ok-clause-given g c =
     let (bytes, takes, gives) = c.in-Line.ensures.fed in (
       bytes,
       record { takes = takes; within = c.in-Line.ensures.counts.bound; little = c.in-Line.ensures.little },
-      line_taken c.args.engines c.args.format c.args.intake.now c.take.new.self c.line.result.now c.next_line.new.self.last c.line.ensures gives c.in-Ok.ensures.took,
+      line_taken c.args.programs.now c.args.format c.args.intake.now c.take.new.self c.line.result.now c.next_line.new.self.last c.line.ensures gives c.in-Ok.ensures.took,
     )
