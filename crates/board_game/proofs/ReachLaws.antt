@@ -1,4 +1,4 @@
--- What the moves of a piece reach, and what follows for one of them.
+-- The reach of a piece's moves, and what follows for one of them.
 use Rattle.std.proofs.Common.{◌≡◌, ℕ, ◌+◌, ◌≤◌, ◌<◌, List, inl, inr, sym, ◌∙◌, ap, subst, arith, ℤ, ◌≤ℤ◌}
 use Rattle.std.specs.Prelude.{Option, Some, None, IfSome, slice_get}
 use Rattle.std.specs.Option.{IsSomeAnd}
@@ -21,7 +21,7 @@ use Rattle.board_game.specs.declared.reach.Reach.{Reach}
 use Rattle.board_game.specs.Reaches.{Goes, IsReach, IsReachWithout}
 use Rattle.board_game.specs.Replayed.{CanMake}
 
--- what holds of the board that is left without the piece, said of the whole board
+-- a bound for the board without the piece, stated for the whole board
 pub reach_whole : (b d : Stacks) (x : ℕ) (side : Colour) (r : Reach) → r.piece ≡ x → d ≡ without b x → IsReachWithout d side r → IsReach b side r
 reach_whole b d x side r same left h p on turned q goes =
     let here : without b r.piece ≡ d = ap (without b) same ∙ sym left in
@@ -29,7 +29,7 @@ reach_whole b d x side r same left h p on turned q goes =
     let both = h p there turned q goes.within (subst (λ c. OneHive (put c r.piece q)) there goes.one_hive) in
     (both.0, λ afar. both.1 (subst (λ c. IsAfar c side q) here afar))
 
--- a number that a bound holds of is no more than what the bound is no more than
+-- if a bound is at most alpha, the number that it bounds is too
 pub no_more : (o : Option ℤ) (alpha beta z : ℤ) → beta ≡ alpha → IsSomeAnd o (λ v. v ≤ℤ beta) → IfSome o (λ v. z ≤ℤ v) → z ≤ℤ alpha
 no_more None alpha beta z same few most = absurd few
 no_more (Some v) alpha beta z same few most = omega (arith, ints, same, few, most)
@@ -44,18 +44,18 @@ placed_from p is x q on hand = elim (moves_legal p is (To x q) on).1 [
   ]
 ]
 
--- a legal move that can be made goes so
+-- a legal move that can be made goes to its place in this way
 pub goes_so : (p : Position) (b : Stacks) (x : ℕ) (q : Place) → p.board ≡ b → CanMake b (To x q) → IsOn (moves p) (To x q) → Goes p x q
 goes_so p b x q same can on =
     let here = subst (λ c. CanMake c (To x q)) (sym same) can in
     record { within = here.3; one_hive = here.8; placed = placed_from p here.0 x q on }
 
--- what is known of a piece's move by its number, said of the piece that is the same
+-- a fact about a piece's move, stated for the piece with the same number
 pub said_of : (p : Position) (x y : ℕ) (q : Place) (alpha beta : ℤ) → y ≡ x → beta ≡ alpha → (Goes p y q → reply_value p 0 (To y q) ≤ℤ beta) → Goes p x q → reply_value p 0 (To x q) ≤ℤ alpha
 said_of p x y q alpha beta same ends h goes =
     subst (λ v. reply_value p 0 (To x q) ≤ℤ v) ends (subst (λ z. reply_value p 0 (To z q) ≤ℤ beta) same (h (subst (λ z. Goes p z q) (sym same) goes)))
 
--- one move more that is worth no more than a number
+-- one more move that is worth no more than a number
 pub more_futile : (ms : List Move) (f : Move → ℤ) (alpha beta : ℤ) (low at : ℕ) → beta ≡ alpha → ((i : ℕ) (m : Move) → low ≤ i → i < at → slice_get ms i ≡ Some m → f m ≤ℤ alpha)
     → (m : Move) → slice_get ms at ≡ Some m → f m ≤ℤ beta → (i : ℕ) (n : Move) → low ≤ i → i < at + 1 → slice_get ms i ≡ Some n → f n ≤ℤ alpha
 more_futile ms f alpha beta low at ends before m here few i n above below there = elim (cases_number i at) [

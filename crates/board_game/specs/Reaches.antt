@@ -1,4 +1,4 @@
--- At most what the moves of a piece are worth with no ply left behind them.
+-- Upper bounds of what a piece's moves are worth with no ply left after them.
 use Rattle.std.specs.Prelude.{◌≡◌, ℕ, ◌≤ℤ◌, Option, Some, None, IfSome, ⊤}
 use Rattle.hive_model.specs.declared.pieces.Colour.{Colour}
 use Rattle.hive_model.specs.declared.places.Place.{Place}
@@ -22,8 +22,8 @@ pub record Goes (p : Position) (x : ℕ) (q : Place) : Type 0 where
   pub placed : spot_of p.board x ≡ None → Placement p x q
 
 -- The board is left without the piece, and the side is to move after it. A move of the piece is
--- worth no more than the one number wherever it goes, and no more than the other where it adds no
--- neighbour to the side's queen.
+-- worth no more than the first number, wherever it goes. It is worth no more than the second if it
+-- adds no neighbour to the side's queen.
 abbrev pub IsReachWithout : Stacks → Colour → Reach → Type 0
 IsReachWithout b side r =
     (p : Position) → without p.board r.piece ≡ b → other_side p.side ≡ side → (q : Place)
@@ -31,7 +31,7 @@ IsReachWithout b side r =
     → IfSome r.most (λ v. reply_value p 0 (To r.piece q) ≤ℤ v)
     × (IsAfar b side q → IfSome r.afar (λ v. reply_value p 0 (To r.piece q) ≤ℤ v))
 
--- the same of the whole board, where a piece in hand goes by a placement
+-- the same for the whole board, on which a piece in hand goes by a placement
 abbrev pub IsReach : Stacks → Colour → Reach → Type 0
 IsReach b side r =
     (p : Position) → p.board ≡ b → other_side p.side ≡ side → (q : Place) → Goes p r.piece q
@@ -39,19 +39,19 @@ IsReach b side r =
     × (IsAfar (without b r.piece) side q
     → IfSome r.afar (λ v. reply_value p 0 (To r.piece q) ≤ℤ v))
 
--- where a piece was asked for, this is what it reaches
+-- if a piece was asked for, this is its reach
 abbrev pub IsReachFound : Stacks → Colour → Option Reach → Type 0
 IsReachFound b side None = ⊤
 IsReachFound b side (Some r) = IsReach b side r
 
--- no placement is worth more than the number, where there is one
+-- no placement is worth more than the number, if there is one
 abbrev pub IsPlacing : Stacks → Colour → Placing → Type 0
 IsPlacing b side t =
     (p : Position) → p.board ≡ b → other_side p.side ≡ side → (x : ℕ) (q : Place)
     → IsWithin 9000 q → Placement p x q
     → IfSome t.most (λ v. reply_value p 0 (To x q) ≤ℤ v)
 
--- where it was asked for, it is so
+-- if it was asked for, it is such a bound
 abbrev pub IsPlacingFound : Stacks → Colour → Option Placing → Type 0
 IsPlacingFound b side None = ⊤
 IsPlacingFound b side (Some t) = IsPlacing b side t

@@ -3,7 +3,7 @@
 use crate::lookahead::Lookahead;
 use cut_keeper::CutKeeper;
 
-/// What a game knew before a move: its keeper, and what was found of the board.
+/// What a game knew before a move: its keeper, and what was found about the board.
 #[derive(Drop)]
 pub(crate) struct Before {
     pub(crate) keeper: CutKeeper,

@@ -1,4 +1,5 @@
-//! Which moves cannot raise alpha with no ply left behind them, by what a game tells of them.
+//! Which moves cannot raise alpha with no ply left after them, by what a game knows of them without
+//! a play.
 
 ghost use Rattle.std.specs.Prelude.{◌≡◌, ◌≤ℤ◌, IfSome, IsTrue, neg_ℤ};
 ghost use Rattle.hive_model.specs.Courses.{position};
@@ -11,7 +12,7 @@ use crate::game::BoardGame;
 use crate::in_hand::is_plain_in_hand;
 use hive_model::{Board, Game, GameBoard, Move};
 
-/// Whether the move brings a piece into play that is no queen.
+/// Whether the move brings a piece other than a queen into play.
 fn is_plain_placement<B: Board>(board: &B, m: &Move) -> bool {
     match m {
         Move::To { piece, .. } => is_plain_in_hand(board, *piece),
@@ -19,8 +20,8 @@ fn is_plain_placement<B: Board>(board: &B, m: &Move) -> bool {
     }
 }
 
-/// Whether a position that is worth so much to its side to move, or more, is worth no more than
-/// alpha to the other side.
+/// Whether a position is worth no more than alpha to the side that does not move in it. It is worth
+/// at least `least` to its side to move.
 fn is_refuted(least: i32, alpha: i32) -> bool
     ensures { IsTrue result → neg_ℤ least ≤ℤ alpha }
 {
@@ -28,8 +29,9 @@ fn is_refuted(least: i32, alpha: i32) -> bool
 }
 
 impl<B: GameBoard> BoardGame<B> {
-    /// At least what the position after a legal move is worth to its side to move. Of a placement
-    /// its worth is asked first, which is told once for each place.
+    /// A lower bound of what the position after a legal move is worth to its side to move, if one
+    /// is known without a play. For a placement the exact worth is tried first, which is computed
+    /// once for each place.
     fn told_least(&mut self, m: Move) -> Option<i32>
         requires { IsOn (moves (position self.old.course)) m }
         ensures least { IfSome result (λ b. b ≤ℤ value (after (position self.old.course) m) 0) }
@@ -44,8 +46,8 @@ impl<B: GameBoard> BoardGame<B> {
         self.least_after(m)
     }
 
-    /// Whether a legal move is worth no more than alpha to the side that makes it, by what the game
-    /// tells of it.
+    /// Whether a legal move is known without a play to be worth no more than alpha to the side that
+    /// makes it.
     pub(crate) fn is_told_futile(&mut self, m: Move, alpha: i32) -> bool
         requires { IsOn (moves (position self.old.course)) m }
         ensures futile { IsTrue result → reply_value (position self.old.course) 0 m ≤ℤ alpha }

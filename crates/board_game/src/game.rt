@@ -1,4 +1,4 @@
-//! The game.
+//! The game on a board.
 
 ghost use Rattle.std.specs.Prelude.{◌≡◌, ◌≤ℤ◌, IsTrue, refl};
 ghost use Rattle.hive_model.specs.Courses.{position};
@@ -24,11 +24,15 @@ use quiet_reply::most_worth;
 use std::alloc::{AllocError, Global};
 use std::marker::Model;
 
-/// A game on a board. To take a move back it keeps where the piece of each ply came from, and what
-/// it knew before it; the piece that rests is that of the last move. The keeper of the cut places
-/// stands for the board between any two calls, so that a question asks no walk. It has what was
-/// found of the board, and of the board without the piece that was asked for last, what was told of
-/// placements, and of the quiet places the one that was found last.
+/// A game on a board.
+///
+/// - To take a move back, it keeps the origin of each ply's piece, and what it knew before that
+///   ply. The piece that rests is that of the last move.
+/// - The keeper of the cut places stands for the board between any two calls. So a question needs
+///   no walk.
+/// - It stores what was found about the board, and about the board without the piece that was asked
+///   for last.
+/// - It stores the known values of placements, and the last quiet place that was found.
 #[derive(Drop)]
 pub struct BoardGame<B: GameBoard> {
     game_type: GameType,
@@ -108,8 +112,8 @@ impl<B: GameBoard> Board for BoardGame<B> {
 }
 
 impl<B: GameBoard> BoardGame<B> {
-    /// Whether a legal move is worth no more than alpha to the side that makes it, with no ply left
-    /// behind it, by what its piece reaches.
+    /// Whether a legal move is known, by the reach of its piece, to be worth no more than alpha to
+    /// the side that makes it. No ply is left after it.
     fn is_out_of_reach(&mut self, m: &Move, alpha: i32) -> bool
         requires { IsOn (moves (position self.old.course)) m.now }
         ensures futile { IsTrue result → reply_value (position self.old.course) 0 m.now ≤ℤ alpha }
@@ -124,8 +128,9 @@ impl<B: GameBoard> BoardGame<B> {
         is_out_of_reach(&reach, &self.board, *place, side, alpha)
     }
 
-    /// Whether a legal move is known to be worth no more than alpha to the side that makes it, with
-    /// no ply left behind it: by what its piece reaches, or else by what is told of the move.
+    /// Whether a legal move is known to be worth no more than alpha to the side that makes it. No
+    /// ply is left after it. The reach of its piece is tried first, then what is known of the move
+    /// without a play.
     fn is_futile(&mut self, m: Move, alpha: i32) -> bool
         requires { IsOn (moves (position self.old.course)) m }
         ensures futile { IsTrue result → reply_value (position self.old.course) 0 m ≤ℤ alpha }

@@ -1,4 +1,4 @@
-//! What was found of the board at hand, so that the worth of a move is told without making it.
+//! What was found about the current board, so that a move can be valued without a play.
 
 ghost use Rattle.std.specs.Prelude.{◌≡◌, ◌≤ℤ◌, None, Some, IfSome};
 ghost use Rattle.std.specs.Option.{IsSomeAnd};
@@ -20,9 +20,9 @@ use cut_keeper::CutKeeper;
 use hive_model::{Board, Colour, Piece, Place};
 use leaf_worth::Base;
 
-/// What was found for the side that is to move after the next move: of the whole board, and of the
-/// board without the piece that was asked for last. Beside these stand what the piece reaches whose
-/// bounds were asked for last, and the bound of all placements.
+/// What was found for the side to move after the next move. It holds what is known of the whole
+/// board, and of the board without the piece that was asked for last. It also holds the reach of
+/// the piece that was last asked for its bounds, and the bound of all placements.
 #[derive(Drop)]
 pub struct Lookahead {
     pub whole: Option<Base>,
@@ -32,7 +32,7 @@ pub struct Lookahead {
 }
 
 impl Lookahead {
-    /// Nothing was found yet.
+    /// A record in which nothing was found yet.
     pub fn new() -> Lookahead
         ensures whole { result.whole ≡ None }
         ensures asked { result.asked ≡ None }
@@ -47,7 +47,7 @@ impl Lookahead {
         }
     }
 
-    /// What was found, which is forgotten here.
+    /// Takes out what was found, and leaves a record in which nothing was found yet.
     pub fn take(&mut self) -> Lookahead
         ensures taken { result ≡ self.old }
         ensures whole { self.new.whole ≡ None }
@@ -64,8 +64,8 @@ impl Lookahead {
     }
 
     /// Finds what is known of the whole board and of the board without the piece, unless it was
-    /// found before. The keeper stands for the board, which is one hive with the piece and without
-    /// it, and on which no queen is surrounded.
+    /// found before. The keeper stands for the board. The board is one hive with the piece and
+    /// without it, and no queen is surrounded on it.
     fn find<B: Board>(&mut self, board: &B, keeper: &CutKeeper, piece: Piece, side: Colour)
         requires known { IsKnown (B.stacks board.now) side self.old }
         requires may { MayAsk (B.stacks board.now) keeper.now }
@@ -82,9 +82,10 @@ impl Lookahead {
         }
     }
 
-    /// What the position is worth to its side to move that the move of the piece to the place leads
-    /// to, where that is told, by what is known or found now of the board. The keeper stands for
-    /// the board, on which no queen is surrounded.
+    /// The value of the position after the move of the piece to the place, if it is known without a
+    /// play. It is the value to that position's side to move, with no ply left to search. It is
+    /// computed from what is known or found now about the board. The keeper stands for the board,
+    /// on which no queen is surrounded.
     pub fn told_value<B: Board>(
         &mut self,
         board: &B,
@@ -107,8 +108,8 @@ impl Lookahead {
         }
     }
 
-    /// At least what that position is worth, where a bound is told, by what is known or found now
-    /// of the board.
+    /// A lower bound of that value, if one is known without a play. It is computed from what is
+    /// known or found now about the board.
     pub fn told_least<B: Board>(
         &mut self,
         board: &B,
@@ -131,8 +132,8 @@ impl Lookahead {
         }
     }
 
-    /// At most what any placement is worth, by what is known or found now of the whole board. The
-    /// keeper stands for the board, which is one hive, and on which no queen is surrounded.
+    /// An upper bound of what any placement is worth, by what is known or found now about the whole
+    /// board. The keeper stands for the board, which is one hive, and no queen is surrounded on it.
     fn placing<B: Board>(&mut self, board: &B, keeper: &CutKeeper, side: Colour) -> Placing
         requires known { IsKnown (B.stacks board.now) side self.old }
         requires may { MayAsk (B.stacks board.now) keeper.now }
@@ -152,8 +153,9 @@ impl Lookahead {
         placing
     }
 
-    /// What the piece reaches, which is in hand or on top: for one in hand the bound of placements
-    /// where that is known, else by what is known or found now of the board without the piece.
+    /// The reach of the piece, which is in hand or on top. For a piece in hand it is the bound of
+    /// placements, if that is known. Otherwise it follows from what is known or found now about the
+    /// board without the piece.
     fn find_reach<B: Board>(
         &mut self,
         board: &B,
@@ -189,7 +191,7 @@ impl Lookahead {
         }
     }
 
-    /// What was answered for the piece, if it was asked for last.
+    /// The stored reach of the piece, if it was asked for last.
     fn known_reach(&self, piece: Piece) -> Option<Reach>
         ensures { IfSome result (λ r. (r.piece ≡ piece) × (self.now.reach ≡ Some r)) }
     {
@@ -201,8 +203,8 @@ impl Lookahead {
         }
     }
 
-    /// What the piece reaches, which is in hand or on top: what was answered if it was asked for
-    /// last, else what is found now.
+    /// The reach of the piece, which is in hand or on top. It is the stored one if the piece was
+    /// asked for last. Otherwise it is found now.
     pub fn reach_of<B: Board>(
         &mut self,
         board: &B,

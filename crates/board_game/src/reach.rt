@@ -1,5 +1,5 @@
-//! At most what the moves of a piece are worth with no ply left behind them, told once for all
-//! places that the piece may go to.
+//! Upper bounds of what a piece's moves are worth with no ply left after them. They are computed
+//! once for all places that the piece may go to.
 
 ghost use Rattle.std.specs.Prelude.{◌≡◌, ◌≤ℤ◌, false, IsNone, IsTrue};
 ghost use Rattle.std.specs.Option.{IsSomeAnd};
@@ -19,8 +19,9 @@ use hive_model::{Board, Colour, Lifted, Piece, Place};
 use leaf_bounds::{is_afar, most_afar, most_of_piece, most_of_placements};
 use leaf_worth::Base;
 
-/// At most what a move of the piece is worth to the side that makes it: wherever it goes, and where
-/// it adds no neighbour to the other's queen. No number where no bound is known.
+/// Upper bounds of what a move of the piece is worth to the side that makes it. One holds wherever
+/// the piece goes. The other holds if it adds no neighbour to the other's queen. A number is
+/// missing if no bound is known.
 #[derive(Drop)]
 pub struct Reach {
     pub piece: Piece,
@@ -29,7 +30,7 @@ pub struct Reach {
 }
 
 impl Reach {
-    /// The same once more.
+    /// A copy of the reach.
     pub fn again(&self) -> Reach
         ensures { result ≡ self.now }
     {
@@ -41,14 +42,14 @@ impl Reach {
     }
 }
 
-/// At most what any placement is worth to the side that makes it, where a bound is known.
+/// An upper bound of what any placement is worth to the side that makes it, if one is known.
 #[derive(Clone, Copy)]
 pub struct Placing {
     pub most: Option<i32>,
 }
 
-/// What the piece reaches by what was found of the board that is left without it, on which no queen
-/// is surrounded.
+/// The reach of the piece, by what was found about the board without it. No queen is surrounded on
+/// that board.
 fn reach_without<B: Board>(board: &B, base: &Base, piece: Piece, side: Colour) -> Reach
     requires found { IsFound (B.stacks board.now) side base.now }
     requires absent { IsNone (spot_of (B.stacks board.now) piece) }
@@ -63,7 +64,8 @@ fn reach_without<B: Board>(board: &B, base: &Base, piece: Piece, side: Colour) -
     Reach { piece, most, afar }
 }
 
-/// What the piece reaches, which is in hand or on top, by what was found of the board without it.
+/// The reach of the piece, which is in hand or on top, by what was found about the board without
+/// it.
 pub fn reach_by<B: Board>(board: &B, base: &Base, piece: Piece, side: Colour) -> Reach
     requires found { IsFound (without (B.stacks board.now) piece) side base.now }
     requires loose { CanBeTaken (B.stacks board.now) piece }
@@ -78,7 +80,7 @@ pub fn reach_by<B: Board>(board: &B, base: &Base, piece: Piece, side: Colour) ->
     }
 }
 
-/// At most what any placement is worth, by what was found of the whole board.
+/// An upper bound of what any placement is worth, by what was found about the whole board.
 pub fn placing_by<B: Board>(board: &B, whole: &Base, side: Colour) -> Placing
     requires found { IsFound (B.stacks board.now) side whole.now }
     requires white { is_surrounded (B.stacks board.now) White ≡ false }
@@ -91,7 +93,7 @@ pub fn placing_by<B: Board>(board: &B, whole: &Base, side: Colour) -> Placing
     }
 }
 
-/// Whether the bound is known, and no more than alpha.
+/// Whether the bound is known and at most alpha.
 fn is_no_more(bound: Option<i32>, alpha: i32) -> bool
     ensures { IsTrue result → IsSomeAnd bound (λ v. v ≤ℤ alpha) }
 {
@@ -101,8 +103,8 @@ fn is_no_more(bound: Option<i32>, alpha: i32) -> bool
     }
 }
 
-/// Whether the piece, which is in hand or on top, adds no neighbour to the side's queen when it
-/// goes to the place.
+/// Whether the piece adds no neighbour to the side's queen if it goes to the place. The piece is in
+/// hand or on top.
 fn goes_afar<B: Board>(board: &B, piece: Piece, place: Place, side: Colour) -> bool
     requires { CanBeTaken (B.stacks board.now) piece }
     ensures { IsTrue result → IsAfar (without (B.stacks board.now) piece) side place }
@@ -113,7 +115,7 @@ fn goes_afar<B: Board>(board: &B, piece: Piece, place: Place, side: Colour) -> b
     }
 }
 
-/// Whether a move to the place is worth no more than alpha by what its piece reaches. The piece is
+/// Whether a move to the place is worth no more than alpha, by the reach of its piece. The piece is
 /// in hand or on top.
 pub fn is_out_of_reach<B: Board>(
     reach: &Reach,

@@ -1,4 +1,4 @@
-//! What is found of a board without a piece, and what is told by it.
+//! What is found about a board without a piece, and what is known by it without a play.
 
 ghost use Rattle.std.specs.Prelude.{◌≡◌, ◌≤ℤ◌, false, IfSome, IsTrue};
 ghost use Rattle.std.specs.Option.{IsSomeAnd};
@@ -21,8 +21,8 @@ use cut_keeper::{CutKeeper, removed_uncounted};
 use hive_model::{Board, Colour, Lifted, Piece, Place};
 use leaf_worth::Base;
 
-/// Finds what is known of the whole board, which is one hive, unless it was found before. The
-/// keeper stands for the board.
+/// Finds what is known of the whole board, unless it was found before. The board is one hive, and
+/// the keeper stands for it.
 pub fn find_whole<B: Board>(board: &B, keeper: &CutKeeper, known: &mut Option<Base>, side: Colour)
     requires keeps { Keeps (B.stacks board.now) keeper.now }
     requires one_hive { OneHive (B.stacks board.now) }
@@ -34,9 +34,9 @@ pub fn find_whole<B: Board>(board: &B, keeper: &CutKeeper, known: &mut Option<Ba
     }
 }
 
-/// What is found of the board without the piece, which is in hand or on top: for one in hand it is
-/// what was found of the whole board. The keeper stands for the board, which is one hive with the piece and without
-/// it, and on which no queen is surrounded.
+/// What is found about the board without the piece, which is in hand or on top. For a piece in hand
+/// it is what was found about the whole board. The keeper stands for the board, which is one hive
+/// with the piece and without it. No queen is surrounded on it.
 fn base_without<B: Board>(
     board: &B,
     keeper: &CutKeeper,
@@ -62,8 +62,9 @@ fn base_without<B: Board>(
     }
 }
 
-/// What the position is worth to its side to move that the piece leads to when it goes to the place
-/// from the hand or from where it is on top, where that is told.
+/// The value of the position after the piece goes to the place, if it is known without a play. It
+/// is the value to that position's side to move. The piece comes from the hand or from the top of
+/// its place.
 pub fn value_by<B: Board>(
     board: &B,
     base: &Base,
@@ -85,8 +86,8 @@ pub fn value_by<B: Board>(
     }
 }
 
-/// At least what that position is worth: what it is worth where that is told, else a bound where
-/// one is.
+/// A lower bound of that value. It is the value itself if that is known without a play, otherwise a
+/// bound if there is one.
 pub fn least_by<B: Board>(
     board: &B,
     base: &Base,
@@ -118,9 +119,9 @@ fn is_asked(asked: &Option<(Piece, Base)>, piece: Piece) -> bool
     }
 }
 
-/// Finds what is known of the board without the piece, by what was found of the whole board, unless
-/// this piece was asked for last. The keeper stands for the board, which is one hive with the piece
-/// and without it, and on which no queen is surrounded.
+/// Finds what is known of the board without the piece, by what was found about the whole board,
+/// unless this piece was asked for last. The keeper stands for the board, which is one hive with
+/// the piece and without it. No queen is surrounded on it.
 pub fn find_base<B: Board>(
     board: &B,
     keeper: &CutKeeper,

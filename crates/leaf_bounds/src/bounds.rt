@@ -37,7 +37,8 @@ use hive_eval::occupied_round;
 use hive_model::{Board, Colour, Piece, Place};
 use leaf_worth::Base;
 
-/// What one neighbour more of the side's queen counts; no answer where she has five or six.
+/// What one more neighbour of the side's queen counts, at most 40. There is no answer if she has
+/// five or six.
 #[tactic(auto, using(hive_model::proofs::PlaceLemmas::wider, hive_model::proofs::PlaceLemmas::wider_on_board))]
 fn queen_gain<B: Board>(board: &B, side: Colour) -> Option<u32>
     ensures gain { IfSome result (λ g. g ≡ queen_gain (B.stacks board.now) side) }
@@ -54,7 +55,7 @@ fn queen_gain<B: Board>(board: &B, side: Colour) -> Option<u32>
     }
 }
 
-/// The weight, or the greatest weight of a piece where that is more.
+/// The weight, or the greatest weight of a piece if that is more.
 fn at_least_one(weight: u32) -> u32
     requires { weight ≤ 280 }
     ensures most { result ≡ max greatest_weight weight }
@@ -63,7 +64,7 @@ fn at_least_one(weight: u32) -> u32
     if weight < 10 { 10 } else { weight }
 }
 
-/// What the board is worth to the side that does not move then, and so much more.
+/// The board's worth to the side that does not move then, plus `more`.
 fn turned_worth<B: Board>(base: &Base, board: &B, more: u32, side: Colour) -> i32
     requires found { IsFound (B.stacks board.now) side base.now }
     requires few { more ≤ 320 }
@@ -98,7 +99,7 @@ fn is_queen_open<B: Board>(board: &B, side: Colour) -> bool
     }
 }
 
-/// Whether the second place is no neighbour of the first.
+/// Whether the second place is not a neighbour of the first.
 fn are_apart(from: Place, to: Place) -> bool
     requires { IsWithin 10000 from }
     ensures { IsTrue result → are_neighbours from to ≡ false }
@@ -109,8 +110,8 @@ fn are_apart(from: Place, to: Place) -> bool
     }
 }
 
-/// Whether a piece that is put on the place adds no neighbour to the side's queen: it is occupied,
-/// or it is no neighbour of hers.
+/// Whether a piece that is put on the place adds no neighbour to the side's queen. Then it is
+/// occupied, or it is no neighbour of hers.
 #[tactic(auto, using(hive_model::proofs::PlaceLemmas::wider, hive_model::proofs::PlaceLemmas::wider_on_board))]
 pub fn is_afar<B: Board>(board: &B, side: Colour, place: Place) -> bool
     ensures { IsTrue result → IsAfar (B.stacks board.now) side place }
@@ -125,13 +126,13 @@ pub fn is_afar<B: Board>(board: &B, side: Colour, place: Place) -> bool
     }
 }
 
-/// At most what it is worth to the side that moves to bring the piece anywhere, with no ply left to
-/// search, where the board is one hive then: as each legal move leaves it. The board is that of the
-/// position before, without the piece; `side` is the side to move after, for which the base was
-/// found, and `held` what the held pieces of the other one weigh.
+/// An upper bound of what it is worth to the side that moves to bring the piece anywhere, with no
+/// ply left to search. The board must be one hive then, and each legal move leaves one. The board
+/// is that of the position before, without the piece. `side` is the side to move after, for which
+/// the base was found. `held` is the weight of the other side's held pieces.
 ///
-/// No answer for the queen of the side to move after, where she has five or six neighbours, and
-/// where one place alone is occupied.
+/// There is no answer for the queen of the side to move after. There is none if she has five or six
+/// neighbours, or if one place alone is occupied.
 pub fn most_of_piece<B: Board>(
     base: &Base,
     board: &B,
@@ -164,11 +165,12 @@ pub fn most_of_piece<B: Board>(
     Some(turned_worth(base, board, most, side))
 }
 
-/// At most what it is worth to the side that moves to bring the piece anywhere but to an empty place
-/// beside the queen of the side to move after, where the board is one hive then. All else is as
-/// with any place, but that the queen may have five neighbours.
+/// An upper bound of the worth of bringing the piece to any place but an empty one beside the
+/// other's queen. It is the worth to the side that moves; the queen's side is the one to move
+/// after. The board must be one hive then. The other conditions are those of `most_of_piece`, but
+/// the queen may have five neighbours.
 ///
-/// No answer for that queen herself, and where one place alone is occupied.
+/// There is no answer for that queen herself, or if one place alone is occupied.
 pub fn most_afar<B: Board>(
     base: &Base,
     board: &B,
@@ -198,12 +200,12 @@ pub fn most_afar<B: Board>(
     Some(turned_worth(base, board, most, side))
 }
 
-/// At most what any placement is worth to the side that moves, with no ply left to search. The
-/// board is that of the position before; `side` is the side to move after, for which the base was
-/// found, and `held` what the held pieces of the other one weigh.
+/// An upper bound of what any placement is worth to the side that moves, with no ply left to
+/// search. The board is that of the position before. `side` is the side to move after, for which
+/// the base was found. `held` is the weight of the other side's held pieces.
 ///
-/// No answer where the side that moves has no piece on the board, where one place alone is
-/// occupied, and where the queen of the side to move after is covered.
+/// There is no answer if the side that moves has no piece on the board, or if one place alone is
+/// occupied. There is none if the queen of the side to move after is covered.
 pub fn most_of_placements<B: Board>(base: &Base, board: &B, held: u32, side: Colour) -> Option<i32>
     requires found { IsFound (B.stacks board.now) side base.now }
     requires held { held ≡ held_weight (B.stacks board.now) None (other_side side) }

@@ -64,7 +64,7 @@ count_all f (d ∷ ds) h = elim (f d) as (λ t. f d ≡ t → list_all f (d ∷ 
       absurd (omega (arith, h, a, none, few))
 ] refl
 
--- as many as there are directions are all of them
+-- a count equal to the number of directions counts them all
 many_all : (f : Dir → Bool) (n : ℕ) → count_by f dirs ≡ n → 6 ≤ n → list_all f dirs ≡ true
 many_all f n count many = let few = count_by-le-length f dirs in count_all f dirs (omega (arith, count, many, few))
 
@@ -124,7 +124,7 @@ module _ (b : Stacks) (is : IsBoard b) (x : ℕ) (p : Place) (low : x < 28) (ins
       pub hand_open : is_surrounded (put b x p) side ≡ false
       hand_open = ap (is_surrounded_at (put b x p)) (stands_still ∙ hand)
 
-    -- the queen stands there
+    -- the queen is on the board
     module _ (s : Spot) (stands : spot_of b (queen_of side) ≡ Some s) where
       round_then : round_queen (put b x p) side ≡ count_by (beside (put b x p) s.place) dirs
       round_then = ap (occupied_round (put b x p)) (stands_still ∙ stands) ∙ round_is (put b x p) s.place
@@ -185,7 +185,7 @@ module _ (b : Stacks) (is : IsBoard b) (x : ℕ) (p : Place) (low : x < 28) (ins
             let c = sum_there in
             ap (is_surrounded_at (put b x p)) (stands_still ∙ stands) ∙ many_all (beside (put b x p) s.place) (m + n) (omega (arith, c, round)) many
 
-      -- no direction leads from her to the place, which is empty or not
+      -- no direction leads from her to the place, whether it is empty or not
       module _ (afar : are_neighbours s.place p ≡ false) where
         pub afar_more : round_queen (put b x p) side ≡ round_queen b side + 0
         afar_more = elim (empty_or_not (height_at b p)) [

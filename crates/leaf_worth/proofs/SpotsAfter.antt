@@ -1,4 +1,4 @@
--- Where the pieces stand after one was put, and which of them are free.
+-- The spots of the pieces after one was put, and which pieces are free.
 use Rattle.std.proofs.Common.{◌≡◌, ◌≢◌, ◌↔◌, List, [], ◌∷◌, length, ℕ, ◌+◌, ◌-◌, ◌<◌, ◌≤◌, Bool, true, false, not, ◌&&◌, ◌⊎◌, inl, inr, refl, sym, ◌∙◌, ap, subst, arith}
 use Rattle.std.specs.Prelude.{Option, Some, None, unwrap_or, slice_get, IsTrue, IsNone, IfSome, nat_eq}
 use Rattle.std.specs.List.{list_any}
@@ -30,8 +30,7 @@ use Rattle.cut_keeper.specs.Rings.{is_suspect}
 use Rattle.leaf_worth.specs.declared.free_after.FreeChange.TheVariants.{Lost}
 use Rattle.leaf_worth.specs.After.{HasTwo, FreeAfter}
 
--- the neighbour in this direction is none whose neighbours form no single arc without it, or it is
--- no cut place
+-- the neighbour in this direction is no cut place, or the others still form one arc without it
 abbrev pub Stays : Stacks → Place → Dir → Type 0
 Stays b p d = (is_suspect (ring (is_occupied b) p) d ≡ false) ⊎ (¬ IsCut b (step p d))
 
@@ -51,7 +50,7 @@ cases_number x y = elim (nat_eq x y) as (λ t. nat_eq x y ≡ t → (x ≡ y) �
   | false ↦ λ e. inr (λ same. let wrong : true ≡ false = sym (eq-eqb x y same) ∙ e in cc)
 ] refl
 
--- the direction before one is another
+-- the direction before one differs from it
 turned : (d : Dir) → dir_before d ≢ d
 turned E e = cc
 turned NE e = cc
@@ -68,7 +67,7 @@ pub nothing_by : {X : Type 0} (o : Option X) → ((y : X) → o ≡ Some y → �
 nothing_by None h = refl
 nothing_by (Some x) h = absurd (h x refl)
 
--- where two places are occupied, one is another than n
+-- if two places are occupied, one of them is not n
 pub another_place : (b : Stacks) → HasTwo b → (n : Place) → (q : Place) × IsTrue (is_occupied b q) × (q ≢ n)
 another_place b two n = elim (list_any (except (is_occupied b) n) (places_of b)) as (λ t. list_any (except (is_occupied b) n) (places_of b) ≡ t → (q : Place) × IsTrue (is_occupied b q) × (q ≢ n)) [
   | true ↦ λ e. let found = any_has (except (is_occupied b) n) (places_of b) e in let out = except_out (is_occupied b) n found.0 found.2 in (found.0, out.1, out.0)
@@ -123,7 +122,7 @@ module _ (b : Stacks) (is : IsBoard b) (x : ℕ) (p : Place) (low : x < 28) (ins
       same_tests (is_cut (put b x p) q) (is_cut b q) (cut_from (put b x p) is_after q, from_cut (put b x p) is_after q)
       (λ e. same.1 (cut_from b is q e), λ h. from_cut b is q (same.0 h))
 
-  -- the test of a free piece, where the piece is not the one that was put
+  -- the test of a free piece, if the piece is not the one that was put
   pub free_then : (y : ℕ) → y ≢ x → is_free_piece (put b x p) (Some x) y ≡ is_uncut_top (put b x p) (spot_of b y)
   free_then y other = ap (λ t. not t && is_uncut_top (put b x p) (spot_of (put b x p) y)) (ne_eqb y x other) ∙ ap (is_uncut_top (put b x p)) (spot_same y other)
 
@@ -135,7 +134,7 @@ module _ (b : Stacks) (is : IsBoard b) (x : ℕ) (p : Place) (low : x < 28) (ins
       ap (λ n. nat_eq (s.level + 1) n && not (is_cut (put b x p) s.place)) (raised.others s.place other)
       ∙ ap (λ t. nat_eq (s.level + 1) (height_at b s.place) && not t) (cut_same s.place same)
 
-  -- what stood where the piece was put is covered
+  -- the piece on the place of the new one is covered
   covered : (y : ℕ) (s : Spot) → spot_of b y ≡ Some s → s.place ≡ p → is_uncut_top (put b x p) (Some s) ≡ false
   covered y s stands same =
       let stood : StandsAt b y p s.level = subst (λ q. StandsAt b y q s.level) same (spot_of_stands b y s stands) in
@@ -145,7 +144,7 @@ module _ (b : Stacks) (is : IsBoard b) (x : ℕ) (p : Place) (low : x < 28) (ins
       ap (λ q. nat_eq (s.level + 1) (height_at (put b x p) q) && not (is_cut (put b x p) s.place)) same
       ∙ ap (λ t. t && not (is_cut (put b x p) s.place)) (ne_eqb _ _ apart)
 
-  -- each piece but z, by where it stands
+  -- each piece but z, by its spot
   module _ (z : Option ℕ) (at_place : (y : ℕ) (s : Spot) → z ≢ Some y → spot_of b y ≡ Some s → is_uncut_top (put b x p) (Some s) ≡ is_uncut_top b (Some s)) where
     pub free_by : (y : ℕ) → z ≢ Some y → is_free_piece (put b x p) (Some x) y ≡ is_free_piece b None y
     free_by y apart = elim (cases_number y x) [
@@ -203,7 +202,7 @@ module _ (b : Stacks) (is : IsBoard b) (x : ℕ) (p : Place) (low : x < 28) (ins
         let on = stands_occupied b y s.place s.level (spot_of_stands b y s stands) in
         free_elsewhere s (moved s.place on) (same s.place on)) y (λ e. cc)
 
-    -- where a piece stands on the ground of this place alone, all other places stay
+    -- if a piece stands on the ground of this place alone, all other places stay
     module _ (n : Place) (one : height_at b n ≡ 1) (top : ℕ) (at_top : top_at b n ≡ Some top) where
       pub first_on : StandsAt b top n 0
       first_on = let e : 0 ≡ height_at b n - 1 = omega (arith, one) in ap (slice_get (stack_at b n)) e ∙ at_top
@@ -224,7 +223,7 @@ module _ (b : Stacks) (is : IsBoard b) (x : ℕ) (p : Place) (low : x < 28) (ins
                     absurd (other (sym first_on ∙ ap (slice_get (stack_at b n)) level ∙ here))
               ]
 
-      -- the piece there is another one than that which is put
+      -- the piece there is not the one that is put
       pub other_on : top ≢ x
       other_on e = gone n 0 (first_on ∙ ap (λ (k : ℕ). Some k) e)
 
@@ -234,7 +233,7 @@ module _ (b : Stacks) (is : IsBoard b) (x : ℕ) (p : Place) (low : x < 28) (ins
           free_then top other_on ∙ ap (is_uncut_top (put b x p)) stands
           ∙ ap (λ t. t && not (is_cut (put b x p) n)) (eq-eqb _ _ (sym (raised.others n apart ∙ one)))
 
-    -- beside one arc of two or more, each neighbour that stays and each place that is none
+    -- beside one arc of two or more: each neighbour that stays, and each place that is no neighbour
     module _ (arc : OneArc (is_occupied b) p) (more : (d : Dir) → ring_mask (ring (is_occupied b) p) ≢ weight d) where
       still_beside : (d : Dir) → IsTrue (is_occupied b (step p d)) → Stays b p d → IsCut (put b x p) (step p d) ↔ IsCut b (step p d)
       still_beside d on_d (inl calm) = cut_by (step p d) (step_moves p d) (arc_but_one b x p empty (step p d) (step_moves p d) (arc_unsuspected (is_occupied b) p d on_d calm))

@@ -1,4 +1,4 @@
--- How what a search spends and answers goes on from moment to moment.
+-- How what a search spends and answers adds up from moment to moment.
 use Rattle.std.proofs.Common.{◌≡◌, ℕ, ◌+◌, ◌-◌, ◌≤◌, ◌^◌, min, neg_ℤ, refl, sym, subst, arith, Option, Some, None}
 use Rattle.std.specs.Prelude.{if◌then◌else◌}
 use Rattle.hive_model.specs.declared.places.Move.{Move}
@@ -52,7 +52,7 @@ spends-as a b n k m l x fewer less = record {
 pub spends-more : (a b : Moment) (n k m l : ℕ) → Spends n k a b → n ≤ m → k ≤ l → Spends m l a b
 spends-more a b n k m l x fewer less = spends-as a b n k m l x fewer (omega (arith, x.played, less))
 
--- the same moment, but that the course and the plays of the game are told by other names
+-- the same moment, with other names for the game's course and plays
 abbrev pub told_by : Moment → Course → ℕ → Moment
 told_by a course played = record a { course = course; played = played }
 
@@ -62,7 +62,7 @@ spends-from f h a course played b same count x =
     subst (λ (q : ℕ). Spends (f (position a.course)) (h (position a.course)) (told_by a a.course q) b) count
     (subst (λ (q : Course). Spends (f (position q)) (h (position q)) (told_by a q played) b) same x)
 
--- what is said of the game of a moment holds of the same game
+-- a fact about the game of a moment holds of an equal game
 pub spends-here : (f h : Position → ℕ) (start : Course) (a b : Moment) → a.course ≡ start → Spends (f (position a.course)) (h (position a.course)) a b
     → Spends (f (position start)) (h (position start)) a b
 spends-here f h start a b same x = subst (λ (q : Course). Spends (f (position q)) (h (position q)) a b) same x
@@ -78,7 +78,8 @@ spends-level a listed dropped b ms n k room put taken x = record {
   paid = x.paid;
 }
 
--- a move is paid for and played, its play is counted, and it is taken back after a search behind it
+-- a move is paid for and played, its play is counted, and it is taken back after a search of its
+-- replies
 pub record Plays (a : Moment) (m : Move) (played : Course) (n : ℕ) (purse : Purse) (ticks : Ticks) (readings last : ℕ) : Type 0 where
   pub moved : played ≡ with_move a.course m
   pub count : n ≡ min (a.played + 1) (2 ^ 64 - 1)

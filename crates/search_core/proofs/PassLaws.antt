@@ -54,11 +54,11 @@ left-by : (p : Position) (d i : ℕ) (m : Move) (hint : Option ℕ) (at : Bool) 
 left-by p d i m hint true here e = omega (arith, skip-left p d i m hint here e)
 left-by p d i m hint false here e = omega (arith, turn-left p d i m hint here e)
 
--- after a move no more is left
+-- after a move the rest is no greater
 pub left-falls : (p : Position) (d i : ℕ) (m : Move) (hint : Option ℕ) → slice_get (moves p) i ≡ Some m → left_of p d hint (i + 1) ≤ left_of p d hint i
 left-falls p d i m hint here = left-by p d i m hint _ here refl
 
--- a move that is passed over costs a play at least
+-- a move that is passed over costs at least one play
 pub pass-plays : (p : Position) (d i : ℕ) (m : Move) (w : Window) (alpha : ℤ) (n0 n1 n2 : ℕ) → slice_get (moves p) i ≡ Some m → reply_value p (d - 1) m ≤ℤ alpha → alpha <ℤ w.beta → n2 ≤ n1 + 1
     → PlaysWithin p d w alpha i n0 n1 → PlaysWithin p d w alpha (i + 1) n0 n2
 pass-plays p d i m w alpha n0 n1 n2 here less high one so =
@@ -91,7 +91,7 @@ spends-saved a b n k purse x mode one early = record {
   };
 }
 
--- the game is the same in the end, by another name
+-- the game is the same at the end, under another name
 pub spends-to : (a b : Moment) (n k : ℕ) (course : Course) (played : ℕ) → Spends n k a b → course ≡ b.course → played ≡ b.played → Spends n k a (told_by b course played)
 spends-to a b n k course played x same count =
     subst (λ (q : ℕ). Spends n k a (told_by b course q)) (sym count) (subst (λ (q : Course). Spends n k a (told_by b q b.played)) (sym same) x)

@@ -1,4 +1,4 @@
--- What is saved, and what is paid for with it.
+-- What is saved, and what it pays for.
 use Rattle.std.proofs.Common.{◌≡◌, ℕ, ◌+◌, ◌-◌, ◌^◌, ◌≤◌, min, true, Bool, sym, ap, subst, arith, ◌∙◌, ℤ, neg_ℤ, ◌<ℤ◌, ◌≤ℤ◌, Option, Some, None}
 use Rattle.std.specs.Prelude.{if◌then◌else◌, IfSome, slice_get}
 use Rattle.std.specs.Int.{int_max}
@@ -134,7 +134,7 @@ tried-here start now d w answer place same x = subst (λ (h : Course). IsTriedEa
 pub at_most-here : (start now : Course) (d : ℕ) (most : ℤ) (place : Option ℕ) → now ≡ start → IsAtMost (position start) d most place → IsAtMost (position now) d most place
 at_most-here start now d most place same x = subst (λ (h : Course). IsAtMost (position h) d most place) (sym same) x
 
--- the lower end of a window is raised to no more than what the position is worth
+-- a window's lower end is raised to no more than what the position is worth
 pub record Lifted (v : ℤ) (w rest : Window) : Type 0 where
   pub beta : rest.beta ≡ w.beta
   pub up : w.alpha ≤ℤ rest.alpha

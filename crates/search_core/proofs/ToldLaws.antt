@@ -1,4 +1,4 @@
--- A worth that is told.
+-- A worth that is known without a play.
 use Rattle.std.proofs.Common.{◌≡◌, arith, ℤ}
 use Rattle.std.proofs.lemmas.Int.{ints}
 use Rattle.hive_model.specs.declared.places.Move.{Move}

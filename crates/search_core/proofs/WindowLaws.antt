@@ -1,4 +1,4 @@
--- What a move that is tried first leaves of a window, and what was found of the rest.
+-- What a move that is tried first leaves of a window, and what was found about the rest.
 use Rattle.std.proofs.Common.{◌≡◌, ◌-◌, ◌≤ℤ◌, ◌<ℤ◌, ℕ, ℤ, true, false, Option, to_z, of_z, ap, arith, ◌∙◌}
 use Rattle.std.specs.Int.{int_max}
 use Rattle.std.proofs.lemmas.Int.{ints, clamps, to_z-of_z}
@@ -16,7 +16,7 @@ use Rattle.search_laws.proofs.HintLaws.{Raised, first-raised, reply-here, found-
 use Rattle.search_core.specs.Times.{IsAtMost, IsTriedEarly}
 use Rattle.search_core.proofs.PurseLaws.{Lifted, lifted, lifted-then, lifted-open, lifted-found, at_most-more, max-right, early-cut, tried-here}
 
--- the rest of a window, the lower end of which the move at the place does not exceed
+-- the rest of a window, after the move at the place, which is worth no more than its lower end
 pub record Rest (p : Position) (d : ℕ) (w rest : Window) (place : Option ℕ) : Type 0 where
   pub up : Lifted (value p d) w rest
   pub open_ : IsOpen rest
@@ -38,13 +38,13 @@ alpha-fits w wide = omega (arith, ints, wide.open_, wide.alpha, wide.beta)
 beta-fits : (w : Window) → IsOpen w → SFits w32 w.beta
 beta-fits w wide = omega (arith, ints, wide.open_, wide.alpha, wide.beta)
 
--- a window whose lower end was raised is one too
+-- a window with a raised lower end is a window too
 pub open-raised : (w : Window) (alpha : ℤ) → IsOpen w → w.alpha ≤ℤ alpha → alpha <ℤ w.beta → IsOpen (record { alpha = alpha; beta = to_z w32 (of_z w32 w.beta) })
 open-raised w alpha wide low high =
     let beta = beta-coded w wide in let least = wide.alpha in let most = wide.beta in
     record { open_ = omega (arith, ints, beta, high); alpha = omega (arith, ints, least, low); beta = omega (arith, ints, beta, most) }
 
--- no more than what is no more
+-- what is at most a number is at most a greater one
 pub at-most-then : (a b c : ℤ) → a ≤ℤ b → b ≤ℤ c → a ≤ℤ c
 at-most-then a b c x y = omega (arith, ints, x, y)
 
@@ -79,7 +79,7 @@ rest-then p d w inner rest one two x y = record {
   most = at_most-more p (d - 1) inner.alpha rest.alpha one y.up.up x.most;
 }
 
--- what was found of the rest holds of the window
+-- what was found about the rest holds of the window
 pub rest-found : (start now : Course) (d : ℕ) (w rest : Window) (place : Option ℕ) (r : ℤ) → now ≡ start → w.alpha <ℤ w.beta → Rest (position start) d w rest place
     → IsFound (value (position now) d) rest r → IsFound (value (position start) d) w r
 rest-found start now d w rest place r same wide x found = lifted-found (value (position start) d) w rest r wide x.up (found-here start now d rest r same found)

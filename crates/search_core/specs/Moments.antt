@@ -18,7 +18,7 @@ use Rattle.search_core.specs.declared.purse.Purse.{Purse}
 use Rattle.search_core.specs.declared.workspace.Node.{Node}
 use Rattle.search_core.specs.declared.workspace.Workspace.{Workspace}
 
--- what contracts see of a game, of the workspace of a search and of a clock at one moment
+-- what contracts see at one moment of a game, of a search's workspace and of a clock
 pub record Moment : Type 0 where
   pub course : Course
   pub played : ℕ
@@ -57,9 +57,9 @@ moment course played readings last previous game work clock = record {
   previous = previous clock;
 }
 
--- Between two moments a search of so many nodes left game and stack as they were and played at most
--- so many moves. Each play was counted, the clock was read once for each 256 of them where there is
--- a deadline, and what was saved on the way was paid for.
+-- Between two moments a search of so many nodes left game and stack as they were. It played at most
+-- so many moves. Each play was counted, and with a deadline the clock was read once for each 256 of
+-- them. What was saved on the way was paid for.
 pub record Spends (nodes plays : ℕ) (old new : Moment) : Type 0 where
   pub before : AreAsBefore old.course new.course old.levels new.levels
   pub often : CountsPlays old.ticks new.ticks old.readings new.readings old.played new.played
@@ -69,8 +69,8 @@ pub record Spends (nodes plays : ℕ) (old new : Moment) : Type 0 where
   pub paid : IsPaid old.purse new.purse old.played new.played
       (counted old.ticks old.readings) (counted new.ticks new.readings)
 
--- An answer is as it should be, and came in time. There is none only where the deadline came, or
--- where an early try could not be paid for.
+-- An answer is as it should be, and came in time. There is none only if the deadline came, or if an
+-- early try could not be paid for.
 pub record Answers {X : Type 0} (Is : X → Type 0) (answer : Option X) (old new : Moment)
     : Type 0 where
   pub found : IfSome answer Is
@@ -84,23 +84,23 @@ SpendsOnNode node old new =
     Spends (nodes (position old.course) node.depth)
     (cost (position old.course) node.depth node.window.alpha node.window.beta) old new
 
--- the plays that the moves of a node cost in its window, one after the other
+-- the plays that the moves of a node cost in its window, one move after the other
 abbrev pub cost_of_moves : Position → Node → ℕ
 cost_of_moves p node =
     tries_cost (tried_cost p (node.depth - 1) node.window.beta)
     (reply_value p (node.depth - 1)) node.window.alpha node.window.beta (moves p)
 
--- what a search of the moves of a node spends, but for the one at the place of the hint
+-- what a search of a node's moves spends, other than the one at the hint's place
 abbrev pub SpendsOnMoves : Option ℕ → Node → Moment → Moment → Type 0
 SpendsOnMoves hint node old new = let p = position old.course in
     Spends (sum_but hint 0 (behind p (node.depth - 1)) (moves p)) (cost_of_moves p node) old new
 
--- what a search of the moves of a node spends, but for this one
+-- what a search of a node's moves spends, other than this one
 abbrev pub SpendsOnOthers : Move → Node → Moment → Moment → Type 0
 SpendsOnOthers m node old new = let p = position old.course in
     Spends (nodes p node.depth - behind p (node.depth - 1) m) (cost_of_moves p node) old new
 
--- what a search for the worth of a move spends, which is played
+-- what a search for a move's worth spends, if the move is played
 abbrev pub SpendsOnReply : Move → Node → Moment → Moment → Type 0
 SpendsOnReply m node old new = let behind = after (position old.course) m in
     Spends (1 + nodes behind node.depth)

@@ -1,4 +1,4 @@
--- What the search of a node asks, of its moves, and of one move.
+-- What the search of a node requires, of its moves, and of one move.
 use Rattle.std.specs.Prelude.{◌≡◌, ℕ, ◌<◌, length}
 use Rattle.hive_model.specs.declared.places.Move.{Move}
 use Rattle.hive_model.specs.Legal.{moves}
@@ -13,7 +13,7 @@ pub record HasOpenRoom (node : Node) (game : Course) (stack : Levels) : Type 0 w
   pub window : IsOpen node.window
   pub room : HasRoom node.depth game stack
 
--- the node's window is open, the game goes on, and its legal moves stand on this level
+-- the node's window is open, the game goes on, and its legal moves are on this level
 pub record IsOpenNode (node : Node) (level : ℕ) (game : Course) (stack : Levels) : Type 0 where
   pub window : IsOpen node.window
   pub listed : IsNode node.depth level game stack
@@ -23,7 +23,7 @@ pub record MayReply (m : Move) (node : Node) (game : Course) (stack : Levels) : 
   pub window : IsOpen node.window
   pub can : CanReply m node.depth game stack
 
--- the legal moves of the game stand on this level
+-- the legal moves of the game are on this level
 pub record AreListed (level : ℕ) (game : Course) (stack : Levels) : Type 0 where
   pub stands : level < length stack.lists
   pub listed : level_of stack level ≡ moves (position game)

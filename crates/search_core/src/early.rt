@@ -17,18 +17,18 @@ use io_edge::Clock;
 use search_laws::Window;
 use value_table::ValueTable;
 
-/// What an early try answers.
+/// The answer of an early try.
 #[derive(Clone, Copy)]
 struct Early {
-    /// What the move is worth, or the lower end of the window where this was not found out.
+    /// The worth of the move, or the lower end of the window if the worth was not found.
     value: i32,
-    /// The place of the move, where it was found out.
+    /// The place of the move, if its worth was found.
     place: Option<u32>,
 }
 
-/// The same over the moves of a level but for the one at the place `tried`, if there is one, which
-/// is worth no more than alpha. The two others that look best are tried first, as far as what is
-/// saved pays for them.
+/// Searches the moves of a level other than the one at the place `tried`, if there is one. That one
+/// is worth no more than alpha. The two others that look best are tried first, as far as the purse
+/// pays for them.
 #[cycle(search)]
 pub(crate) fn search_early<G: Game, C: Clock>(
     game: &mut G,
@@ -83,9 +83,9 @@ pub(crate) fn search_early<G: Game, C: Clock>(
     search_rest(game, level, places, rest, work, clock)
 }
 
-/// Tries the move at the place of a level, if there is one, before its turn, as far as what is
-/// saved pays for it. None where the deadline came, or where the node itself is searched within an
-/// early try, which could not be paid for.
+/// Tries the move at the place of a level, if there is one, before its turn, as far as the purse
+/// pays for it. There is no answer if the deadline came. There is none if the node itself is
+/// searched within an early try that could not be paid for.
 #[cycle(search)]
 fn try_early<G: Game, C: Clock>(
     game: &mut G,
@@ -137,7 +137,7 @@ fn try_early<G: Game, C: Clock>(
     None
 }
 
-/// Notes the move of an early try that cut off.
+/// Stores the move of an early try that cut off.
 fn cut_by<G: Game>(
     game: &G,
     early: Early,
@@ -158,7 +158,8 @@ fn cut_by<G: Game>(
     }
 }
 
-/// The place of a move that raises the greatest worth so far, or else the one before.
+/// The place of the best move: this one if it raises the greatest worth so far, otherwise the one
+/// before.
 fn best_place(raises: bool, place: Option<u32>, before: Option<u32>) -> Option<u32> {
     if raises { place } else { before }
 }

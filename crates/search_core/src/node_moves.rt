@@ -1,4 +1,4 @@
-//! The moves of a node: the order in which they are tried, and when no further one is.
+//! The moves of a node: the order in which they are tried, and when the search of them ends.
 
 ghost use Rattle.std.specs.Prelude.{◌-◌, ◌≤ℤ◌};
 ghost use Rattle.hive_model.specs.Legal.{moves};
@@ -20,8 +20,9 @@ use hive_model::{Game, Move};
 use io_edge::Clock;
 use search_laws::Window;
 
-/// Searches as `search` does where the game goes on and a ply is left to search; none where the
-/// deadline came first. A legal move that the table names is tried before the moves are listed.
+/// Searches as `search` does, if the game goes on and a ply is left to search. There is no answer
+/// if the deadline came first. If the table names a legal move, it is tried before the moves are
+/// listed.
 #[cycle(search)]
 pub(crate) fn search_moves<G: Game, C: Clock>(
     game: &mut G,
@@ -46,8 +47,8 @@ pub(crate) fn search_moves<G: Game, C: Clock>(
     }
 }
 
-/// The same, with this legal move tried before the others. They are listed only where it does not
-/// cut off.
+/// Searches with this legal move tried before the others. They are listed only if it does not cut
+/// off.
 #[cycle(search)]
 fn search_from<G: Game, C: Clock>(
     game: &mut G,
@@ -89,7 +90,7 @@ fn search_from<G: Game, C: Clock>(
     search_others(game, m, rest, work, clock)
 }
 
-/// The same over the legal moves but for this one, which is worth no more than alpha.
+/// Searches the legal moves other than this one, which is worth no more than alpha.
 #[cycle(search)]
 fn search_others<G: Game, C: Clock>(
     game: &mut G,
@@ -119,8 +120,8 @@ fn search_others<G: Game, C: Clock>(
     answer
 }
 
-/// The same where the table names no legal move. Of the listed moves the one that looks best is
-/// tried before the others.
+/// Searches if the table names no legal move. Of the listed moves the one that looks best is tried
+/// before the others.
 #[cycle(search)]
 fn search_listed<G: Game, C: Clock>(
     game: &mut G,
@@ -146,8 +147,8 @@ fn search_listed<G: Game, C: Clock>(
     answer
 }
 
-/// The same where the legal moves stand on the level. The one at the place `hint`, if there is one,
-/// is tried before the others.
+/// Searches the legal moves on the level. The one at the place `hint`, if there is one, is tried
+/// before the others.
 #[cycle(search)]
 fn search_hinted<G: Game, C: Clock>(
     game: &mut G,

@@ -1,4 +1,4 @@
-//! A node: where nothing is left to search, where the table answers, and else its moves.
+//! A node: whether nothing is left to search, whether the table answers, and otherwise its moves.
 
 ghost use Rattle.hive_model.specs.Keys.{key};
 ghost use Rattle.hive_model.specs.Minimax.{value};
@@ -17,8 +17,8 @@ use hive_model::Game;
 use io_edge::Clock;
 use search_laws::leaf_value;
 
-/// Searches as `search` does, with what is saved so far. None also where an early try could not be
-/// paid for.
+/// Searches as `search` does, with what the purse holds so far. There is also no answer if an early
+/// try could not be paid for.
 #[cycle(search)]
 pub(crate) fn search_with<G: Game, C: Clock>(
     game: &mut G,

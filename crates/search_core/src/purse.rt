@@ -1,4 +1,4 @@
-//! The plays that a search has saved, and an early try that is paid for with them.
+//! The plays that a search has saved, and how they pay for early tries.
 
 ghost use Rattle.std.specs.Prelude.{
   ◌≡◌,
@@ -11,18 +11,18 @@ ghost use Rattle.std.specs.Prelude.{
   if◌then◌else◌,
 };
 
-/// The plays that a search has saved. Each move that the game tells without a play is paid for like
-/// one that is played, so it saves one play. A move that is tried early is paid for from what is
-/// saved, a play at a time, and no longer than something is left.
+/// The plays that a search has saved. A move that the game values without a play is counted like a
+/// played one, so it saves one play. A move that is tried early is paid for from the purse, one
+/// play at a time, as long as something is left.
 #[derive(Drop)]
 pub(crate) struct Purse {
     pub(crate) saved: u64,
-    /// Whether each play is paid for from what is saved.
+    /// Whether each play is paid for from the purse.
     pub(crate) early: bool,
 }
 
 impl Purse {
-    /// Nothing is saved yet.
+    /// A purse in which nothing is saved yet.
     pub(crate) fn empty() -> Purse
         ensures { result ≡ record { saved = 0; early = false } }
     {
@@ -32,7 +32,7 @@ impl Purse {
         }
     }
 
-    /// Adds the play that a told move saves, but not within an early try.
+    /// Adds the play that a move valued without a play saves, but not within an early try.
     pub(crate) fn save(&mut self)
         ensures mode { self.new.early ≡ self.old.early }
         ensures one { self.new.saved ≤ self.old.saved + 1 }
@@ -44,8 +44,8 @@ impl Purse {
         self.saved += 1;
     }
 
-    /// Pays for a play within an early try, and tells whether it may be made. The last play saved
-    /// is never spent, so that nothing is left just where one could not be paid for.
+    /// Pays for a play within an early try, and returns whether it may be made. The last saved play
+    /// is never spent. So nothing is left exactly if a play could not be paid for.
     pub(crate) fn pay(&mut self) -> bool
         ensures mode { self.new.early ≡ self.old.early }
         ensures paid { IsTrue result
@@ -76,7 +76,7 @@ impl Purse {
         self.saved == 0
     }
 
-    /// From here on each play is paid for. Tells whether this was so before.
+    /// From now on each play is paid for. Returns whether this was so before.
     pub(crate) fn begin_early(&mut self) -> bool
         ensures before { result ≡ self.old.early }
         ensures begun { self.new ≡ record { saved = self.old.saved; early = true } }
@@ -86,7 +86,7 @@ impl Purse {
         before
     }
 
-    /// As before `begin_early`, which told this.
+    /// Restores the mode that `begin_early` returned.
     pub(crate) fn end_early(&mut self, before: bool)
         ensures { self.new ≡ record { saved = self.old.saved; early = before } }
     {

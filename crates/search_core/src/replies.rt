@@ -11,9 +11,9 @@ use hive_model::{Game, Move};
 use io_edge::Clock;
 use search_laws::Window;
 
-/// Searches for what a legal move is worth to the side that makes it, with so many plies of best
-/// play behind it, as `search` does. None where the deadline came first. With no ply behind it the
-/// move is not made where the game tells its worth.
+/// Searches, as `search` does, for what a legal move is worth to the side that makes it, with so
+/// many plies of best play after it. There is no answer if the deadline came first. With no ply
+/// after it, the move is not made if the game values it without a play.
 pub fn reply<G: Game, C: Clock>(
     game: &mut G,
     m: Move,
@@ -33,8 +33,8 @@ pub fn reply<G: Game, C: Clock>(
     reply_with(game, m, node, work, clock)
 }
 
-/// The same with what is saved so far. A told move saves a play. None also where an early try could
-/// not be paid for.
+/// Searches as `reply` does, with what the purse holds so far. A move valued without a play saves a
+/// play. There is also no answer if an early try could not be paid for.
 #[cycle(search)]
 pub(crate) fn reply_with<G: Game, C: Clock>(
     game: &mut G,
@@ -59,7 +59,7 @@ pub(crate) fn reply_with<G: Game, C: Clock>(
     play_reply(game, m, node, work, clock)
 }
 
-/// The same, and the move is made.
+/// Searches as `reply_with` does, and the move is made.
 #[cycle(search)]
 fn play_reply<G: Game, C: Clock>(
     game: &mut G,

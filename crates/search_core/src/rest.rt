@@ -1,4 +1,5 @@
-//! The moves of a node in the order of the list, but for those that were tried before their turn.
+//! The moves of a node in the order of the list, other than those that were tried before their
+//! turn.
 
 ghost use Rattle.std.specs.Prelude.{◌≡◌, ◌-◌, ◌||◌, nat_eq, Some};
 ghost use Rattle.std.specs.Option.{option_eq};
@@ -35,9 +36,9 @@ impl Places {
     }
 }
 
-/// The same over the moves of a level but for those at the places, which are worth no more than
-/// alpha. The one at `hint` was paid for by a slot of its own. A move that is no candidate is
-/// passed over, and saves a play as a told move does.
+/// Searches the moves of a level other than those at the places, which are worth no more than
+/// alpha. The one at `hint` was paid for separately. A move that is no candidate is passed over,
+/// and saves a play like a move valued without a play.
 #[cycle(search)]
 pub(crate) fn search_rest<G: Game, C: Clock>(
     game: &mut G,

@@ -1,5 +1,5 @@
-//! How often a search looks at the clock: once for each 256 plays, where it has a deadline, and
-//! else never.
+//! How often a search reads the clock: once for each 256 plays if it has a deadline, otherwise
+//! never.
 
 ghost use Rattle.std.specs.Prelude.{
   ◌≡◌,
@@ -60,15 +60,15 @@ impl Ticker {
         }
     }
 
-    /// What the clock said when it was read last, or 0 where it was not read yet.
+    /// The last reading of the clock, or 0 if it was not read yet.
     pub fn latest(&self) -> u64
         ensures { result ≡ self.now.latest }
     {
         self.latest
     }
 
-    /// Counts a play, and tells whether the deadline has come. At each 256th play the clock is
-    /// read, once, and only there the answer may be true; without a deadline nothing is counted.
+    /// Counts a play, and returns whether the deadline has come. At each 256th play the clock is
+    /// read once, and only then may the answer be true. Without a deadline nothing is counted.
     pub fn tick<C: Clock>(&mut self, clock: &mut C) -> bool
         ensures counted { is_due self.old ≡ false → (result ≡ false)
             × (self.new.plays ≡ (if is_some self.old.deadline then self.old.plays + 1 else

@@ -1,4 +1,4 @@
-//! What a move is worth, told without making it.
+//! The worth of a move, without making it.
 
 ghost use Rattle.std.specs.Prelude.{◌≡◌, ◌-◌, ◌<◌, ◌≤◌, length, IfSome};
 ghost use Rattle.hive_model.specs.Legal.{moves};
@@ -13,8 +13,8 @@ use crate::workspace::Node;
 use hive_model::{Game, Move, MoveStack};
 use search_laws::Window;
 
-/// What a legal move is worth to the side that makes it with no ply left behind it, or at least
-/// that it is worth no more than the lower end of the window.
+/// The worth of a legal move to the side that makes it, with no ply left after it, or an upper
+/// bound of it. The bound is at or below the lower end of the window.
 fn told_leaf<G: Game>(game: &mut G, m: Move, window: Window) -> Option<i32>
     requires window { IsOpen window }
     requires legal { IsOn (moves (position (G.course game.old))) m }
@@ -33,7 +33,7 @@ fn told_leaf<G: Game>(game: &mut G, m: Move, window: Window) -> Option<i32>
     Some(-least)
 }
 
-/// At most what a legal move is worth with one ply left behind it, where this is no more than the
+/// An upper bound of a legal move's worth with one ply left after it, if it is at or below the
 /// lower end of the window.
 fn told_bound<G: Game>(game: &mut G, m: Move, window: Window) -> Option<i32>
     requires window { IsOpen window }
@@ -55,9 +55,9 @@ fn told_bound<G: Game>(game: &mut G, m: Move, window: Window) -> Option<i32>
     }
 }
 
-/// The answer of a search of a legal move with so many plies left behind it, where the game tells
-/// it without making the move: what it is worth where none is left, or a bound at or below the
-/// lower end, and such a bound where one is.
+/// The answer of a search of a legal move with so many plies left after it, if the game values it
+/// without a play. With no ply left it is the worth, or a bound at or below the lower end. With one
+/// ply left it is such a bound.
 pub(crate) fn told_reply<G: Game>(game: &mut G, m: Move, node: Node) -> Option<i32>
     requires window { IsOpen node.window }
     requires legal { IsOn (moves (position (G.course game.old))) m }
@@ -74,7 +74,8 @@ pub(crate) fn told_reply<G: Game>(game: &mut G, m: Move, node: Node) -> Option<i
 }
 
 /// The place of the next move of the level, from `from` on, that may raise alpha. Each move that is
-/// passed over is worth no more. None is where a ply is left behind the moves of the node.
+/// passed over is worth no more. No move is passed over if a ply is left after the moves of the
+/// node.
 pub(crate) fn next_candidate<G: Game>(
     game: &mut G,
     depth: u32,

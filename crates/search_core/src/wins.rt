@@ -4,8 +4,8 @@ ghost use Rattle.std.specs.Prelude.{◌<◌, length};
 
 use hive_model::{Game, Move, MoveStack, Piece, Place};
 
-/// The place of the first move of a level that seems to win at once: it fills the one empty place
-/// beside the queen of the side that does not move.
+/// The place of the first move of a level that seems to win at once. Such a move fills the one
+/// empty place beside the queen of the side that does not move.
 pub fn likely_win<G: Game>(game: &G, stack: &MoveStack, level: u32) -> Option<u32>
     requires { level < length stack.now.lists }
 {
@@ -19,7 +19,7 @@ pub fn likely_win<G: Game>(game: &G, stack: &MoveStack, level: u32) -> Option<u3
     None
 }
 
-/// Where the queen stands, if all but one of the neighbours of her place are occupied.
+/// The queen's place, if all its neighbours but one are occupied.
 fn besieged_home<G: Game>(game: &G, queen: Piece) -> Option<Place> {
     match game.spot(queen) {
         Some(spot) => {
@@ -33,7 +33,7 @@ fn besieged_home<G: Game>(game: &G, queen: Piece) -> Option<Place> {
     }
 }
 
-/// Whether a move of another piece than the queen goes to an empty place beside her home, and
+/// Whether a move of a piece other than the queen goes to an empty place beside her place, and
 /// leaves none empty there.
 fn fills<G: Game>(game: &G, m: Move, queen: Piece, home: Place) -> bool {
     let Move::To { piece, place } = m else {

@@ -1,4 +1,4 @@
-//! What a search works with beside the game.
+//! What a search works with besides the game.
 
 ghost use Rattle.std.specs.Prelude.{◌≡◌};
 
@@ -8,14 +8,14 @@ use hive_model::MoveStack;
 use search_laws::Window;
 use value_table::ValueTable;
 
-/// What a search works with beside the game: room for the lists of moves by level, a table of what
-/// was found, and what tells it when to stop.
+/// What a search works with besides the game. It has room for the lists of moves by level, a table
+/// of what was found, and a ticker that says when to stop.
 #[derive(Drop)]
 pub struct Workspace {
     pub stack: MoveStack,
     pub table: ValueTable,
     pub ticker: Ticker,
-    /// What early tries are paid for with. It is emptied as a search begins.
+    /// The purse that pays for early tries. It is emptied as a search begins.
     pub(crate) purse: Purse,
 }
 
@@ -35,9 +35,9 @@ impl Workspace {
     }
 }
 
-/// What is asked of a position: how many plies are searched, from 0 to 64, and which values are
-/// told apart. Asked of a move, the plies are those behind it, and the values are as its side sees
-/// them.
+/// The question about a position: how many plies to search, from 0 to 64, and between which values
+/// to tell exactly. If the question is about a move, the plies are those after it, and the values
+/// are its side's.
 #[derive(Clone, Copy, Debug)]
 pub struct Node {
     pub depth: u32,

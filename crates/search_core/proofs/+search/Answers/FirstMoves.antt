@@ -1,5 +1,5 @@
--- A move that is tried before the others: one that the table names, before they are listed, or the
--- one of the list that looks best.
+-- A move that is tried before the others: one that the table names, before the moves are listed, or
+-- the listed one that looks best.
 use Rattle.std.proofs.Common.{rules, ◌≡◌, ◌+◌, ◌≤ℤ◌, ◌-◌, to_z, of_z, Some, refl, sym, ap, subst, arith}
 use Rattle.std.specs.List.{slice_get}
 use mir.Val.{SFits}

@@ -1,4 +1,4 @@
--- A move that is played, and what is searched behind it.
+-- A move that is played, and the search after it.
 use Rattle.std.proofs.Common.{rules, ◌≡◌, ◌+◌, ◌≤◌, pos, neg_ℤ, ℕ, ℤ, ◌-ℤ◌, to_z, of_z, refl, arith}
 use mir.Syntax.{w32}
 use Rattle.std.proofs.lemmas.Int.{ints}
