@@ -1,6 +1,6 @@
 -- Moves of a list that are passed over: those that were tried before their turn, and those that
 -- cannot raise alpha.
-use Rattle.std.proofs.Common.{◌≡◌, ℕ, ◌+◌, ◌-◌, ◌≤◌, Bool, true, false, refl, sym, subst, arith, drop, ◌∙◌, ⊎_elim, inl, inr, ℤ, ◌≤ℤ◌, ◌<ℤ◌, Option, Some, nat_eq}
+use Rattle.std.proofs.Common.{◌≡◌, ℕ, ◌+◌, ◌-◌, ◌≤◌, Bool, true, false, refl, sym, subst, arith, drop, ◌∙◌, inl, inr, ℤ, ◌≤ℤ◌, ◌<ℤ◌, Option, Some, nat_eq}
 use Rattle.std.specs.Prelude.{◌⊎◌, ◌||◌, slice_get}
 use Rattle.std.specs.Option.{option_eq}
 use Rattle.std.specs.Int.{int_max}
