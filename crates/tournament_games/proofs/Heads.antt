@@ -10,7 +10,7 @@ use Rattle.tournament_core.specs.declared.fixtures.GameEnd.{GameEnd}
 use Rattle.tournament_games.specs.Tournaments.{Terms, head_line}
 use Rattle.tournament_games.specs.Waves.{HeadedRun, TournamentRun}
 
--- the head was written, and the games were played behind it
+-- the head was written, and the games were played after it
 pub headed : (t : Terms) (ends : List GameEnd) (status : Status) (rest : Told) (times : Times) (engines : Engines) (w0 w : Told) (text : List ℕ) (after : World) → text ≡ head_line t → WritesAs text Done Done w0 w → HeadedRun t ends status (world (sides rest w) times engines) after
     → TournamentRun t ends status (world (sides rest w0) times engines) after
 headed t ends status rest times engines w0 w text after is (inl (done, wrote)) run =

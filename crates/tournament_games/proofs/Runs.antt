@@ -1,4 +1,4 @@
--- What a run comes to, from wave to wave and behind the last one.
+-- What a run results in, from wave to wave and after the last one.
 use Rattle.std.proofs.Common.{◌≡◌, ◌≢◌, ℕ, zero, suc, ◌+◌, ◌*◌, ◌<◌, ◌≤◌, List, [], ◌∷◌, ◌++◌, length, map, take, get_or, Some, refl, ap, sym, ◌∙◌, arith, subst, length-append, inl, inr}
 use Rattle.std.specs.Prelude.{slice_get}
 use Rattle.std.specs.List.{sum_by, zip}
@@ -61,7 +61,7 @@ zip-none (x ∷ xs) = refl
 pub resumed-none : (plan : Plan) → resumed plan [] ≡ []
 resumed-none plan = ap (λ gs. map (λ (g : Fixture × GameEnd). record { fixture = g.0; ended = g.1 }) gs) (zip-none (schedule plan))
 
--- A wave more
+-- One more wave
 
 pub wrote-none : (t : Terms) (first : ℕ) (tally : Counts) (a : World) → a.sides.written ≡ behind a.sides.written [] → WroteGames t first [] [] tally tally a a
 wrote-none t first tally a same = record {
@@ -113,7 +113,7 @@ cut-more t first done count olds news tally0 tally now a b c at few so w =
       },
     )
 
--- memory was wanting for the last wave
+-- memory ran out for the last wave
 none-more : (t : Terms) (first : ℕ) (olds news : List Job) (tally0 tally : Counts) (a b c : World) → WroteGames t first olds news tally0 tally a b → NoWave b c → (os ns : List Job) × (between : Engines) × Starved t first os ns between a c
 none-more t first olds news tally0 tally a b c so w = (
   olds,
@@ -135,7 +135,7 @@ ends-games t first done count olds news tally0 tally now SpawnFault a b c at few
 ends-games t first done count olds news tally0 tally now BadInput a b c at few other so w = absurd w
 ends-games t first done count olds news tally0 tally now InputFull a b c at few other so w = absurd w
 
--- Behind the last game
+-- After the last game
 
 -- the games were not all played
 pub ends-run : (t : Terms) (ends : List GameEnd) (tally0 tally : Counts) (status : Status) (a b : World) → status ≢ Done → GamesRun t (length ends) tally0 tally status a b → HeadedRun t ends status a b

@@ -1,4 +1,4 @@
--- The starts of programs, one after another, and what is closed behind them.
+-- The starts of programs, one after another, and what is closed after them.
 use Rattle.std.proofs.Common.{◌≡◌, ℕ, ◌+◌, ◌^◌, ◌<◌, ◌≤◌, cond, List, [], ◌∷◌, ◌++◌, length, Option, Some, refl, ap, sym, ◌∙◌, arith, subst, length-append, inl, inr}
 use Rattle.std.specs.List.{flat_map}
 use Rattle.std.specs.Option.{option_to_list}
@@ -28,7 +28,7 @@ rises-then n m a b c later below (inl more) (inl other) = inl (omega (arith, mor
 rises-then n m a b c later below (inl more) (inr most) = inr most
 rises-then n m a b c later below (inr most) k = inr (omega (arith, most, later, below))
 
--- the failures of some calls behind those of others
+-- the failures of some calls after those of others
 pub counts-then : (n m a b c : ℕ) → CountsFaults n a b → CountsFaults m b c → CountsFaults (n + m) a c
 counts-then n m a b c h k = elim (cases_lt 0 m) [
   | inl some ↦ record {
@@ -46,7 +46,7 @@ counts-then n m a b c h k = elim (cases_lt 0 m) [
 
 -- The programs of one game
 
--- One game behind others
+-- One game after others
 
 pub started-append : (engines : List Engine) (xs ys : List Job) (a b c : Engines) → AreStarted engines xs a b → AreStarted engines ys b c → AreStarted engines (xs ++ ys) a c
 started-append engines xs ys a b c s u = record {

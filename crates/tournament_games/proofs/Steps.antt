@@ -60,7 +60,7 @@ begun-more t plan first place before f jobs now job a b c same at there fits num
 
 -- Lines
 
--- the lines of these games stand there, and they were noted
+-- the lines of these games are in the text, and the games were noted
 pub record Lined (jobs : List Job) (count : ℕ) (text : List ℕ) (tally0 tally : Counts) : Type 0 where
   pub told : All (λ (j : Job). j.outcome ≢ None) jobs
   pub lines : text ≡ games_text jobs
@@ -99,7 +99,7 @@ lined-more jobs i job text now tally0 tally next low is some wrote engines games
           (noted (gs ++ map played_game (take i jobs)) (so.noted gs was));
     })
 
--- behind the last game all of them were told
+-- after the last game all of them were written
 pub lined-all : (jobs : List Job) (i : ℕ) (text : List ℕ) (tally0 tally : Counts) → length jobs ≤ i → i ≤ length jobs → Lined (take i jobs) i text tally0 tally → Lined jobs (length jobs) text tally0 tally
 lined-all jobs i text tally0 tally past low so =
     let same : i ≡ length jobs = omega (arith, past, low) in

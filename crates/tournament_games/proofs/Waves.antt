@@ -1,4 +1,4 @@
--- Waves, one behind another.
+-- Waves, one after another.
 use Rattle.std.proofs.Common.{◌≡◌, ◌≢◌, ℕ, ◌+◌, cond, List, [], ◌∷◌, ◌++◌, length, map, Option, Some, None, Result, Ok, Err, IfOk, OnOk, OnErr, refl, ap, sym, ◌∙◌, arith, subst, append_assoc, length-append, inl, inr}
 use Rattle.std.specs.Prelude.{is_none}
 use Rattle.std.specs.List.{All, AllZip, flat_map}
@@ -31,7 +31,7 @@ zip-append R [] (u ∷ us) ys vs a b = absurd a
 zip-append R (x ∷ xs) [] ys vs a b = absurd a
 zip-append R (x ∷ xs) (u ∷ us) ys vs a b = (a.0, zip-append R xs us ys vs a.1 b)
 
--- Games behind games
+-- Games after games
 
 pub played-append : (t : Terms) (n : ℕ) (xs us ys vs : List Job) (a b c : Engines) → ArePlayed t n xs us a b → ArePlayed t (n + length us) ys vs b c → ArePlayed t n (xs ++ ys) (us ++ vs) a c
 played-append t n xs us ys vs a b c p q =
@@ -74,7 +74,7 @@ notes-append us vs a b c n m = λ games is.
 pub text-append : (us vs : List Job) → games_text (us ++ vs) ≡ games_text us ++ games_text vs
 text-append us vs = flat_map-append told_text us vs
 
--- What the games of a wave came to
+-- The results of a wave's games
 
 settled-done : (t : Terms) (old new : Job) → IsSettled t old new → new.outcome ≢ None → IsDone t old new
 settled-done t old new s some = record {
@@ -147,7 +147,7 @@ wave-played t first olds news a b c next s settled some closes counts still = re
   cause = subst (λ n. CountsFaults (absences olds) a.start_faults n) (sym still.starts) s.cause;
 }
 
--- where memory was wanting behind the starts, all links were closed
+-- if memory ran out after the starts, all links were closed
 pub wave-shut : (t : Terms) (olds news : List Job) (a b c : Engines) → AreStarted t.engines olds a b → AllZip (IsSettled t) olds news → ClosesLinks b.sent c.sent (all_links news) → StartsNone b c → Shuts 0 a c
 wave-shut t olds news a b c s settled closes still = record {
   opened = all_links olds;
@@ -173,7 +173,7 @@ shut-open t first olds news a b c p s =
     (closes-append a.sent b.sent c.sent (all_links news) s.closed p.closes s.closes)
     (omega (arith, one, other, same, many))
 
--- what is told of a wave whose games were all told
+-- the lines of a wave in which each game has an outcome
 pub wave-told : {E : Type 0} (t : Terms) (first count : ℕ) (olds news shown : List Job) (tally0 tally : Counts) (a b c : Engines) (r : Result (List ℕ) E) → shown ≡ news → length olds ≡ count → AreNext t.plan first olds → AreStarted t.engines olds a b → AllZip (IsSettled t) olds news
     → ClosesLinks b.sent c.sent (all_links news) → c.engine_faults ≡ counted (all_links news) b.engine_faults → StartsNone b c → OnOk r (All (λ (j : Job). j.outcome ≢ None) shown) → IfOk r (λ text. text ≡ games_text shown) → OnOk r (Notes shown tally0 tally)
     → IfOk r (λ text. IsWave t first count text tally0 tally a c)

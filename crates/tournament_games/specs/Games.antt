@@ -13,8 +13,8 @@ use Rattle.tournament_games.specs.declared.outcome.ToldGame.{ToldGame}
 use Rattle.tournament_games.specs.Tournaments.{Terms, begin_of, setup_in}
 use Rattle.tournament_games.specs.Texts.{absence_outcome, drawn, match_outcome}
 
--- a game of a tournament: its number, from 1 on; its opening and its engines; the link to white's
--- program and to black's, where it was started; and what is told of the game, once it was played
+-- A game of a tournament: its number, counted from 1, its opening and its engines. It has the link
+-- to white's program and to black's, if it was started, and the outcome, once the game was played.
 pub record Job : Type 0 where
   pub number : ℕ
   pub fixture : Fixture
@@ -22,7 +22,7 @@ pub record Job : Type 0 where
   pub black : Option Wire
   pub outcome : Option ToldGame
 
--- a game that was not played
+-- a game that was not played yet
 abbrev pub unplayed : ℕ → Fixture → Option Wire → Option Wire → Job
 unplayed number fixture white black = record {
   number = number;
@@ -34,12 +34,12 @@ unplayed number fixture white black = record {
 
 -- The order of the games
 
--- the game that is played when so many were played before it
+-- the game that is played after `before` earlier ones
 pub record IsNext (plan : Plan) (before : ℕ) (job : Job) : Type 0 where
   pub number : job.number ≡ before + 1
   pub fixture : slice_get (schedule plan) before ≡ Some job.fixture
 
--- the games that are played one after the other when so many were played before them
+-- the games that are played one after the other, after `before` earlier ones
 abbrev pub AreNext : Plan → ℕ → List Job → Type 0
 AreNext plan before [] = ⊤
 AreNext plan before (job ∷ jobs) = IsNext plan before job × AreNext plan (before + 1) jobs
@@ -47,7 +47,8 @@ AreNext plan before (job ∷ jobs) = IsNext plan before job × AreNext plan (bef
 -- How a game went
 
 -- The match of a game was run over these links, from its opening to its verdict, by readings of a
--- clock of its own, whose last one before the match and behind it are these; and this is told.
+-- clock of its own. These are the clock's last readings before the match and after it, and this is
+-- the outcome.
 pub record WasRun
     (t : Terms) (number : ℕ) (f : Fixture) (w0 w b0 b : Wire) (told : ToldGame) : Type 0 where
   pub stands : MatchState
@@ -72,14 +73,14 @@ pub record IsMatch
   pub black_ends : b ≡ Some black_after
   pub run : WasRun t number f white_before white_after black_before black_after told
 
--- the side that has no link: white where both have none
+-- the side that has no link: white if both have none
 abbrev pub absent_side : Option Wire → Option Wire → Option Colour
 absent_side None black = Some White
 absent_side (Some white) None = Some Black
 absent_side (Some white) (Some black) = None
 
--- No match was played, since a program could not be started; its side forfeits. The links are as
--- they were.
+-- No match was played, because a program could not be started. Its side forfeits. The links are
+-- unchanged.
 pub record IsForfeit
     (t : Terms) (number : ℕ) (f : Fixture) (w0 w b0 b : Option Wire) (told : ToldGame)
     : Type 0 where
@@ -89,7 +90,7 @@ pub record IsForfeit
   pub black : b ≡ b0
   pub tells : told ≡ absence_outcome t.setup number f (begin_of t f) side
 
--- a game was played over links that stood so before and behind it, and this is told of it
+-- a game was played over links in these states before and after it, and this is its outcome
 abbrev pub Goes
     : Terms → ℕ → Fixture → Option Wire → Option Wire → Option Wire → Option Wire → ToldGame
     → Type 0
@@ -103,20 +104,20 @@ pub record IsSameGame (old new : Job) : Type 0 where
   pub white : is_none new.white ≡ is_none old.white
   pub black : is_none new.black ≡ is_none old.black
 
--- the game was played over its links as they stood before
+-- the game was played over the links in their earlier state
 abbrev pub IsPlayed : Terms → Job → Job → Type 0
 IsPlayed t old new =
     IsSomeAnd new.outcome
     (λ told. Goes t old.number old.fixture old.white new.white old.black new.black told)
 
--- what became of a game: it is the same game, and was played, or nothing is told of it
+-- the result for a game: it is the same game, and it was played or has no outcome
 pub record IsSettled (t : Terms) (old new : Job) : Type 0 where
   pub same : IsSameGame old new
   pub settled : (new.outcome ≡ None) ⊎ IsPlayed t old new
 
--- What a game comes to
+-- The result of a game
 
--- the two lines that tell a game; none where nothing is told of it
+-- the two lines of a game; none if it has no outcome
 abbrev pub text_in : Option ToldGame → List ℕ
 text_in None = []
 text_in (Some told) = told.text

@@ -18,7 +18,7 @@ links_of job = option_to_list job.white ++ option_to_list job.black
 abbrev pub all_links : List Job → List Wire
 all_links jobs = flat_map links_of jobs
 
--- the words of a program, where it was started
+-- the words of a program, if it was started
 abbrev pub words_if : Option Wire → List (List ℕ) → List (List (List ℕ))
 words_if link words = map (λ one. words) (option_to_list link)
 
@@ -32,19 +32,19 @@ job_words engines job =
 abbrev pub is_absent : Job → Bool
 is_absent job = is_none job.white || is_none job.black
 
--- for how many of the games a program could not be started
+-- the number of games for which a program could not be started
 abbrev pub absences : List Job → ℕ
 absences jobs = count_by is_absent jobs
 
--- So many calls have failed, and were counted: the count rose by at least this number, or stands at
--- its greatest value, that of a u64; where none has failed it stands.
+-- So many calls have failed, and were counted. The count rose by at least this number, or has
+-- reached the greatest u64. If no call has failed, it is unchanged.
 pub record CountsFaults (number before now : ℕ) : Type 0 where
   pub later : before ≤ now
   pub rose : RoseBy number before now
   pub same : number ≡ 0 → now ≡ before
   pub below : 0 < number → now < 2 ^ 64
 
--- no call of its links has failed yet, and where white's program was not started, black's was not
+-- no call of its links has failed yet; if white's program was not started, black's was not
 pub record IsFreshJob (job : Job) : Type 0 where
   pub white : IfSome job.white (λ link. IsFresh link.reads link.writes)
   pub black : IfSome job.black (λ link. IsFresh link.reads link.writes)
@@ -61,7 +61,7 @@ pub record IsStart
   pub cause : HasCause (link ≡ None) before.start_faults after.start_faults
 
 -- The programs of these games were started, game by game and white's first, and none was closed.
--- For each game for which a program could not be started, a start has failed, and was counted.
+-- For each game for which a program could not be started, a start has failed and was counted.
 pub record AreStarted
     (engines : List Engine) (jobs : List Job) (before after : Engines) : Type 0 where
   pub fresh : All IsFreshJob jobs
@@ -71,7 +71,7 @@ pub record AreStarted
   pub failed : after.engine_faults ≡ before.engine_faults
   pub cause : CountsFaults (absences jobs) before.start_faults after.start_faults
 
--- programs were started, and as many were closed as were open before and were started now: none is
+-- programs were started, and as many were closed as were open before or were started now: none is
 -- left open
 pub record Shuts (open_before : ℕ) (before after : Engines) : Type 0 where
   pub opened : List Wire

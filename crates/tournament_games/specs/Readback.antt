@@ -12,8 +12,8 @@ use Rattle.match_command.specs.Texts.{ending_text}
 use Rattle.tournament_core.specs.declared.fixtures.GameEnd.{GameEnd}
 use Rattle.tournament_games.specs.Texts.{absence_text, drawn, end_by, forfeited_by, won_by}
 
--- how a game ended, by the text of its verdict, that is what stands behind the numbers in its line;
--- none where the text tells no end
+-- how a game ended, from the text of its verdict: the part of its line after the numbers. There is
+-- no answer if the text says no end
 abbrev pub end_in_text : List ℕ → Option GameEnd
 end_in_text text =
     if bytes_eq text (codes "result WhiteWins") then Some (won_by White)
@@ -30,8 +30,8 @@ IsEnding (Rules s) = IsTrue (is_over_state s)
 IsEnding Limit = ⊤
 IsEnding (Forfeit side cause) = ⊤
 
--- how a game ended is read back from the text of its verdict, also where the program of a side
--- could not be started
+-- how a game ended is read back from the text of its verdict, even if a side's program could not be
+-- started
 pub record EndsAreReadBack : Type 0 where
   pub verdicts :
       (setup : Setup) (v : Verdict) → IsEnding v

@@ -1,4 +1,4 @@
--- The lines that tell a tournament: two for each game, and one for each engine of the standings.
+-- The lines of a tournament: two for each game, and one for each engine of the standings.
 use Rattle.std.specs.Prelude.{ℕ, false, true, List, [], ◌∷◌, ◌++◌, Option, Some, None, codes, decimal, map}
 use Rattle.hive_model.specs.declared.pieces.Colour.{Colour}
 use Rattle.hive_model.specs.declared.places.Move.{Move}
@@ -35,12 +35,12 @@ game_line setup number f moves =
 abbrev pub verdict_line : ℕ → Fixture → List ℕ → List ℕ
 verdict_line number f ending = codes "verdict " ++ (numbers_text number f ++ (ending ++ 10 ∷ []))
 
--- the two lines that tell a game
+-- the two lines of a game
 abbrev pub game_text : Setup → ℕ → Fixture → List Move → List ℕ → List ℕ
 game_text setup number f moves ending =
     game_line setup number f moves ++ verdict_line number f ending
 
--- how a game ended whose program of this side could not be started
+-- the verdict of a game for which this side's program could not be started
 abbrev pub absence_text : Colour → List ℕ
 absence_text side = codes "forfeit " ++ (side_text side ++ codes " nostart")
 
@@ -64,20 +64,20 @@ end_by (Rules s) = record { winner = state_winner s; forfeited = false }
 end_by Limit = drawn
 end_by (Forfeit side cause) = forfeited_by side
 
--- the same where there is a verdict; a match that is not over was won by neither side
+-- the same, if there is a verdict; a match that is not over was won by neither side
 abbrev pub end_in : Option Verdict → GameEnd
 end_in None = drawn
 end_in (Some v) = end_by v
 
--- what is told of a game whose match stands so at its end
+-- the outcome of a game with a match in this state at its end
 abbrev pub match_outcome : Setup → ℕ → Fixture → MatchState → ToldGame
 match_outcome setup number f t = record {
   text = game_text setup number f t.moves (ending_text setup t.verdict);
   ended = end_in t.verdict;
 }
 
--- what is told of a game for which the program of this side could not be started: its opening, and
--- the forfeit
+-- the outcome of a game for which this side's program could not be started: its opening, and the
+-- forfeit
 abbrev pub absence_outcome : Setup → ℕ → Fixture → List Move → Colour → ToldGame
 absence_outcome setup number f begin side = record {
   text = game_text setup number f begin (absence_text side);
@@ -86,7 +86,7 @@ absence_outcome setup number f begin side = record {
 
 -- Standings
 
--- how many games an engine won, drew, lost, and lost by forfeit, each number behind a word; with an
+-- how many games an engine won, drew, lost, and lost by forfeit, each number after a word, with an
 -- LF (10)
 abbrev pub ends_text : Place → List ℕ
 ends_text place =

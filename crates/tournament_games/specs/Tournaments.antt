@@ -1,4 +1,4 @@
--- What a tournament is played by.
+-- The terms of a tournament.
 use Rattle.std.specs.Prelude.{◌≡◌, ℕ, ◌≤◌, List, [], length, slice_get, unwrap_or}
 use Rattle.std.specs.List.{All}
 use Rattle.hive_model.specs.declared.places.Move.{Move}
@@ -13,8 +13,9 @@ use Rattle.tournament_record.specs.declared.parts.HeadPart.{HeadPart}
 use Rattle.tournament_record.specs.Heads.{head, head_text}
 use Rattle.tournament_record.specs.Openings.{IsOpening}
 
--- what a tournament is played by: its programs, who plays whom and how often, how the matches are
--- played, the moves of each opening, and how many games are played at once
+-- The terms of a tournament: its programs, its plan, the setup of the matches, and the moves of
+-- each opening. They also say how many games are played at once. The plan says who plays whom and
+-- how often.
 pub record Terms : Type 0 where
   pub engines : List Engine
   pub plan : Plan
@@ -31,8 +32,8 @@ terms engines plan setup openings at_once = record {
   at_once = at_once;
 }
 
--- what holds of every tournament: the plan is for its programs and its openings, each of which is a
--- game of the setup's type; 1 to 64 games are played at once
+-- What holds of every tournament. The plan is for its programs and its openings. Each opening is a
+-- game of the setup's type, and 1 to 64 games are played at once.
 pub record IsTerms (t : Terms) : Type 0 where
   pub plan : IsPlan t.plan
   pub engines : length t.engines ≡ t.plan.engines
@@ -46,7 +47,7 @@ pub record IsTerms (t : Terms) : Type 0 where
 abbrev pub begin_of : Terms → Fixture → List Move
 begin_of t f = unwrap_or (slice_get t.openings f.opening) []
 
--- what the match of a game is played by
+-- the setup of a game's match
 abbrev pub setup_in : Terms → Fixture → FullSetup
 setup_in t f = setup_from t.setup (begin_of t f)
 

@@ -1,5 +1,5 @@
--- Games that were played wave after wave, and what a run of a tournament writes, plays and starts,
--- by the status with which it ends.
+-- Games that were played wave after wave. What a run of a tournament writes, plays and starts, by
+-- the status with which it ends.
 use Rattle.std.specs.Prelude.{◌≡◌, ◌⊎◌, ℕ, ◌+◌, ◌*◌, ◌<◌, ◌≤◌, List, ◌++◌, length, map, take}
 use Rattle.std.specs.List.{All, AllZip, flat_map, sum_by, zip}
 use Rattle.io_edge.specs.Outside.{Told, behind}
@@ -22,16 +22,16 @@ use Rattle.tournament_games.specs.Links.{CountsFaults, IsFreshJob, Shuts, absenc
 
 -- Games
 
--- a game was played: as it stood once its programs were started, and as it stood behind its match
+-- a game was played: its state once its programs were started, and its state after its match
 pub record IsDone (t : Terms) (old new : Job) : Type 0 where
   pub same : IsSameGame old new
   pub played : IsPlayed t old new
 
--- These games were played, those that come when so many were played before them. Their programs
--- were started, game by game and white's first, each over a link on which no call had failed, and
--- closed in the same order. A game begins as in the first list, and stands behind its match as in
--- the second one. For each game for which a program could not be started, a start has failed, and
--- was counted.
+-- These games were played, the next ones after `first` earlier ones. Their programs were started,
+-- game by game and white's first, and closed in the same order. At their start no call of their
+-- links had failed. The first list has the games as they begin, and the second one as they are
+-- after their matches. For each game for which a program could not be started, a start has failed
+-- and was counted.
 pub record ArePlayed
     (t : Terms) (first : ℕ) (olds news : List Job) (before after : Engines) : Type 0 where
   pub next : AreNext t.plan first olds
@@ -47,14 +47,14 @@ pub record ArePlayed
 abbrev pub games_text : List Job → List ℕ
 games_text jobs = flat_map told_text jobs
 
--- a tally has noted these games behind others
+-- a tally has noted these games after others
 abbrev pub Notes : List Job → Counts → Counts → Type 0
 Notes news before after =
     (games : List PlayedFixture)
     → IsTallyOf games before
     → IsTallyOf (games ++ map played_game news) after
 
--- so many games were played, and noted, and this is the text that tells them
+-- so many games were played and noted, and this is their text
 pub record IsWave
     (t : Terms) (first count : ℕ) (text : List ℕ) (tally0 tally : Counts) (before after : Engines)
     : Type 0 where
@@ -67,11 +67,11 @@ pub record IsWave
 
 -- The run
 
--- the games that ended so before, which are the first ones of the plan
+-- the games that ended in this way before, which are the first ones of the plan
 abbrev pub resumed : Plan → List GameEnd → List PlayedFixture
 resumed plan ends = map (λ g. record { fixture = g.0; ended = g.1 }) (zip (schedule plan) ends)
 
--- all games that were played: those before, and these
+-- all games that were played: the earlier ones, and these
 abbrev pub all_games : Terms → List GameEnd → List Job → List PlayedFixture
 all_games t ends news = resumed t.plan ends ++ map played_game news
 
@@ -79,8 +79,8 @@ all_games t ends news = resumed t.plan ends ++ map played_game news
 abbrev pub standings_text : Terms → List Place → List ℕ
 standings_text t places = flat_map (standing_text t.engines) places
 
--- All games behind those before were played, and these are the standings of all games, whose points
--- add up to two for each game.
+-- All games after the earlier ones were played. These are the standings of all games, and their
+-- points add up to two for each game.
 pub record IsPlayedOut
     (t : Terms) (ends : List GameEnd) (olds news : List Job) (places : List Place)
     (before after : Engines) : Type 0 where
@@ -100,8 +100,8 @@ pub record Tells
       after.sides.written
       ≡ behind before.sides.written (games_text news ++ standings_text t places)
 
--- The lines of whole games were written, and of those of a wave of further ones, which were played
--- too, the first n bytes, and not all.
+-- The lines of whole games were written. A wave of further ones was played too, and of its lines
+-- the first n bytes were written, and not all.
 pub record CutInGames
     (t : Terms) (first : ℕ) (olds whole cut : List Job) (n : ℕ) (before after : World)
     : Type 0 where
@@ -112,7 +112,7 @@ pub record CutInGames
       after.sides.written
       ≡ behind before.sides.written (games_text whole ++ take n (games_text cut))
 
--- the lines of all games were written, and of the standings the first n bytes, and not all
+-- the lines of all games were written, and the first n bytes of the standings, and not all
 pub record CutInStandings
     (t : Terms) (ends : List GameEnd) (olds news : List Job) (places : List Place) (n : ℕ)
     (before after : World) : Type 0 where
@@ -122,8 +122,8 @@ pub record CutInStandings
       after.sides.written
       ≡ behind before.sides.written (games_text news ++ take n (standings_text t places))
 
--- Memory was wanting: the lines of games were written, whole and in their order. Whatever was
--- started behind them was closed.
+-- Memory ran out. The lines of games were written, whole and in their order. Whatever was started
+-- after them was closed.
 pub record Starved
     (t : Terms) (first : ℕ) (olds news : List Job) (between : Engines)
     (before after : World) : Type 0 where
@@ -138,7 +138,7 @@ pub record WroteWave
   pub wave : IsWave t first count text tally0 tally before.engines after.engines
   pub wrote : after.sides.written ≡ behind before.sides.written text
 
--- of the lines of a wave the first n bytes were written, and not all
+-- the first n bytes of a wave's lines were written, and not all
 pub record CutWave
     (t : Terms) (first count : ℕ) (tally0 tally : Counts) (before after : World) : Type 0 where
   pub text : List ℕ
@@ -152,7 +152,7 @@ pub record NoWave (before after : World) : Type 0 where
   pub shut : Shuts 0 before.engines after.engines
   pub wrote : after.sides.written ≡ before.sides.written
 
--- what was written and played of a wave, by the status with which it ends
+-- what was written and played in a wave, by the status with which it ends
 abbrev pub WaveRun : Terms → ℕ → ℕ → Counts → Counts → Status → World → World → Type 0
 WaveRun t first count tally0 tally Done before after =
     WroteWave t first count tally0 tally before after
@@ -174,8 +174,8 @@ pub record WroteGames
   pub noted : Notes news tally0 tally
   pub wrote : after.sides.written ≡ behind before.sides.written (games_text news)
 
--- what was written and played of all games, when so many were played before them, by the status
--- with which they end
+-- what was written and played of all games after `first` earlier ones, by the status with which
+-- they end
 abbrev pub GamesRun : Terms → ℕ → Counts → Counts → Status → World → World → Type 0
 GamesRun t first tally0 tally Done before after =
     (olds news : List Job)
@@ -203,7 +203,7 @@ pub record WroteStandings (t : Terms) (tally : Counts) (before after : Told) : T
   pub noted : AreNoted t tally places
   pub wrote : after ≡ behind before (standings_text t places)
 
--- of the lines of the standings the first n bytes were written, and not all
+-- the first n bytes of the standings' lines were written, and not all
 pub record CutStandings (t : Terms) (tally : Counts) (before after : Told) : Type 0 where
   pub places : List Place
   pub n : ℕ
@@ -223,8 +223,8 @@ StandingsRun t tally SpawnFault before after = ⊥
 StandingsRun t tally BadInput before after = ⊥
 StandingsRun t tally InputFull before after = ⊥
 
--- What was written, played and started behind the head, where a tournament ends with this status,
--- of which the first games ended so before. Six statuses are not its own.
+-- What was written, played and started after the head, if a tournament ends with this status. Its
+-- first games ended in this way before. Six statuses are not its own.
 abbrev pub HeadedRun : Terms → List GameEnd → Status → World → World → Type 0
 HeadedRun t ends Done before after =
     (olds news : List Job) × (places : List Place) × Tells t ends olds news places before after
@@ -252,13 +252,13 @@ abbrev pub once_headed : Terms → World → World
 once_headed t w =
     world (sides w.sides.rest (behind w.sides.written (head_line t))) w.times w.engines
 
--- of the head the first n bytes were written, and not all; no program was started
+-- the first n bytes of the head were written, and not all; no program was started
 pub record CutHead (t : Terms) (n : ℕ) (before after : World) : Type 0 where
   pub part : n < length (head_line t)
   pub wrote : after.sides.written ≡ behind before.sides.written (take n (head_line t))
   pub unstarted : LeavesEngines before after
 
--- memory was wanting before anything was written, and no program was started
+-- memory ran out before anything was written, and no program was started
 pub record NoneTold (before after : World) : Type 0 where
   pub unwritten : after.sides.written ≡ before.sides.written
   pub unstarted : LeavesEngines before after
@@ -275,8 +275,8 @@ HeadlessRun t SpawnFault before after = ⊥
 HeadlessRun t BadInput before after = ⊥
 HeadlessRun t InputFull before after = ⊥
 
--- What was written, played and started where a tournament ends with this status, of which the first
--- games ended so before: the head comes first.
+-- What was written, played and started if a tournament ends with this status. Its first games ended
+-- in this way before. The head comes first.
 abbrev pub TournamentRun : Terms → List GameEnd → Status → World → World → Type 0
 TournamentRun t ends status before after =
     HeadedRun t ends status (once_headed t before) after ⊎ HeadlessRun t status before after

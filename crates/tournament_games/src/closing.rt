@@ -1,4 +1,4 @@
-//! The end of the links of a wave.
+//! Closing the links of a wave.
 ghost use Rattle.std.specs.Prelude.{◌≡◌};
 ghost use Rattle.std.specs.Option.{option_map, option_to_list};
 ghost use Rattle.match_command.specs.Match.{StartsNone};
@@ -9,7 +9,7 @@ ghost use Rattle.tournament_games.specs.Links.{all_links, links_of};
 use crate::job::Job;
 use io_edge::Spawner;
 
-/// Closes a link, where there is one.
+/// Closes a link, if there is one.
 fn close_one<P: Spawner>(link: Option<P::Engine>, spawner: &mut P)
     ensures sent { ClosesLinks (P.engines spawner.old).sent (P.engines spawner.new).sent
         (option_to_list (option_map (λ l. wire (P.Engine.rest l) (P.Engine.written l)

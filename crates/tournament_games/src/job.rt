@@ -24,8 +24,9 @@ use std::marker::Model;
 use tournament_core::Fixture;
 use tournament_edge::Clocks;
 
-/// A game of a wave: its number, from 1 on, its opening and its engines; the links to white's
-/// program and to black's, where they were started; and what is told of it, once it was played.
+/// A game of a wave. It has its number, counted from 1, its opening and its engines. It has the
+/// links to white's program and to black's, if they were started. It has the outcome, once the game
+/// was played.
 #[derive(Drop)]
 pub(crate) struct Job<L: Link> {
     number: u64,
@@ -80,7 +81,7 @@ fn run<L: Link, G: Game + Drop, M: Clocks>(
     tell_match(alloc, setup, number, fixture, &referee)
 }
 
-/// What is told of a game for which a side's program could not be started.
+/// The outcome of a game for which a side's program could not be started.
 fn forfeit<G: Game + Drop>(
     alloc: Global,
     tournament: &Tournament,
@@ -96,7 +97,7 @@ fn forfeit<G: Game + Drop>(
     tell_absence::<G>(alloc, tournament.setup(), number, fixture, begin, side)
 }
 
-/// Plays a game over the links that there are.
+/// Plays a game over the links that exist.
 fn play_over<L: Link, G: Game + Drop, M: Clocks>(
     alloc: Global,
     tournament: &Tournament,
@@ -128,7 +129,7 @@ fn play_over<L: Link, G: Game + Drop, M: Clocks>(
 }
 
 impl<L: Link> Job<L> {
-    /// A game that was not played.
+    /// A game that was not played yet.
     pub(crate) fn new(number: u64, fixture: Fixture, white: Option<L>, black: Option<L>) -> Job<L>
         ensures { result ≡ unplayed number fixture
             (option_map
@@ -145,8 +146,8 @@ impl<L: Link> Job<L> {
         }
     }
 
-    /// Plays the game: its match where both programs were started, and else a forfeit. After want
-    /// of memory nothing is told of it, and its links are where the calls so far left them.
+    /// Plays the game: its match if both programs were started, otherwise a forfeit. If memory ran
+    /// out, the game has no outcome, and its links are as the calls so far left them.
     pub(crate) fn play<G: Game + Drop, M: Clocks>(
         &mut self,
         alloc: Global,
@@ -180,7 +181,7 @@ impl<L: Link> Job<L> {
         self.fixture
     }
 
-    /// What is told of the game, once it was played.
+    /// The outcome of the game, once it was played.
     pub(crate) fn outcome(&self) -> Option<&ToldGame>
         ensures { MatchOption result (self.now.outcome ≡ None)
             (λ told. self.now.outcome ≡ Some told.now) }
@@ -188,7 +189,7 @@ impl<L: Link> Job<L> {
         self.outcome.as_ref()
     }
 
-    /// The links as they stand, white's first.
+    /// The links as they are, white's first.
     pub(crate) fn links(self) -> (Option<L>, Option<L>)
         ensures white { option_map
             (λ l. wire (L.rest l) (L.written l) (L.read_faults l) (L.write_faults l)) result.0

@@ -1,11 +1,11 @@
-//! Openings.
+//! Openings of tournament games.
 ghost use Rattle.std.specs.Prelude.{◌≡◌, IfOk};
 ghost use Rattle.tournament_record.specs.Openings.{IsOpening};
 
 use hive_model::{Game, MoveList};
 use std::alloc::{AllocError, Global};
 
-/// The moves of a game under way, as an opening. The only error is want of memory.
+/// The moves of an unfinished game, as an opening. The only error is running out of memory.
 pub fn opening_of<G: Game>(alloc: Global, game: &G) -> Result<MoveList, AllocError>
     ensures moves { IfOk result (λ moves. moves ≡ (G.course game.now).made) }
     ensures valid { IfOk result (λ moves. IsOpening (G.course game.now).game_type moves) }

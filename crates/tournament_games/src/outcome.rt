@@ -1,8 +1,8 @@
-//! What is told of a game.
+//! The outcome of a game.
 use hive_model::ReplyText;
 use tournament_core::GameEnd;
 
-/// What is told of a game that was played: its two lines, and how it ended.
+/// The outcome of a game that was played: its two lines, and how it ended.
 #[derive(Drop)]
 pub(crate) struct ToldGame {
     pub text: ReplyText,

@@ -30,7 +30,7 @@ use tournament_core::{GameEnd, Plan, Tally, standings};
 use tournament_edge::{Clocks, Progress};
 use tournament_record::{head_of, head_text};
 
-/// A tally of the games that were played before, the first ones of the plan.
+/// A tally of the games that were played before, which are the first ones of the plan.
 fn resume(alloc: Global, plan: Plan, ends: &[GameEnd]) -> Result<Tally, AllocError>
     requires valid { IsPlan plan }
     requires within { length ends.now ≤ length (schedule plan) }
@@ -46,7 +46,8 @@ fn resume(alloc: Global, plan: Plan, ends: &[GameEnd]) -> Result<Tally, AllocErr
     Ok(tally)
 }
 
-/// How many games the next wave has, where so many are left.
+/// The number of games of the next wave, if so many games are left. It is at least 1, at most
+/// `at_once`, and at most as many as are left.
 fn wave_of(left: u64, at_once: u32) -> u32
     requires some { 1 ≤ left }
     requires wave { 1 ≤ at_once }
@@ -61,8 +62,7 @@ fn wave_of(left: u64, at_once: u32) -> u32
     }
 }
 
-/// Plays a wave of so many games when so many were played before, notes them, and writes their
-/// lines.
+/// Plays a wave of `count` games after `first` earlier ones, notes them, and writes their lines.
 fn write_wave<R: Threads + Sync, P: Spawner, K: Sink, G: Game + Send + Drop, M: Clocks + Sync>(
     rt: &R,
     alloc: Global,
@@ -93,8 +93,9 @@ fn write_wave<R: Threads + Sync, P: Spawner, K: Sink, G: Game + Send + Drop, M: 
     }
 }
 
-/// Plays all games, of which so many were played before, wave after wave, notes them, writes the
-/// lines of each wave as soon as it was played, and then shows how far the tournament is.
+/// Plays all games wave after wave and notes them, after the ones that were played before. The
+/// lines of each wave are written as soon as it was played. Then the progress of the tournament is
+/// shown.
 fn write_games<
     R: Threads + Sync,
     P: Spawner,
@@ -142,7 +143,7 @@ fn write_games<
     Status::Done
 }
 
-/// The lines of the standings, by the games that were noted.
+/// The lines of the standings, from the games that were noted.
 fn tell_standings(
     alloc: Global,
     tournament: &Tournament,
@@ -157,7 +158,7 @@ fn tell_standings(
     tell_places(alloc, tournament.programs(), places.items())
 }
 
-/// Writes the lines of the standings, by the games that were noted.
+/// Writes the lines of the standings, from the games that were noted.
 fn write_standings<K: Sink>(
     alloc: Global,
     tournament: &Tournament,
@@ -176,7 +177,7 @@ fn write_standings<K: Sink>(
     }
 }
 
-/// Plays the games that are left, and writes their lines and the standings, behind the head.
+/// Plays the games that are left, and writes their lines and the standings, after the head.
 fn play_headed<
     R: Threads + Sync,
     P: Spawner,
@@ -232,7 +233,7 @@ fn head_line<G: Game + Drop>(
     head_text(alloc, parts.items())
 }
 
-/// Plays a tournament and tells it.
+/// Plays a tournament and writes its text.
 ///
 /// The head is written first, a line that says which tournament it is. The games follow in the
 /// order of the plan, without the first ones, which were played before and ended as given. They are
@@ -242,7 +243,7 @@ fn head_line<G: Game + Drop>(
 /// program that cannot be started forfeits that game. If white's cannot, black's is not started.
 /// Then the games are played at once, if threads can be had. Each has two links and a clock of its
 /// own, and begins with the moves of its opening. Then the programs of the wave are closed, in the
-/// order of their starts, and the lines of its games are written, in the order of the games:
+/// order of their starts. The lines of its games are written, in the order of the games:
 ///
 /// ```text
 /// game N I J GAMESTRING
@@ -261,11 +262,14 @@ fn head_line<G: Game + Drop>(
 /// with the number of games. Each program that was started is closed before the call returns. After
 /// each wave, once its lines were written, `Progress` shows how far the tournament is.
 ///
-/// `Done` says that the whole text was written. `WriteFault` says that a write has failed: of the
-/// head a front was written, and no program was started; or the head and the lines of earlier waves
-/// were written, and of those of the last wave, or of the standings, a front and not all. `Memory`
-/// says that memory was wanting: nothing was written, or the head and the lines of the waves so
-/// far. No other status is answered.
+/// The status says how the call ended:
+/// - `Done`: the whole text was written.
+/// - `WriteFault`: a write has failed. Only an initial part of the head may have been written; then
+///   no program was started. Otherwise the head and the lines of earlier waves were written, and an
+///   initial part, but not all, of the last wave's lines or of the standings.
+/// - `Memory`: memory ran out. Nothing was written, or the head and the lines of the waves so far.
+///
+/// There is no other status.
 pub fn play_tournament<
     R: Threads + Sync,
     P: Spawner,

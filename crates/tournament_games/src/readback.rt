@@ -17,13 +17,13 @@ fn won_by(side: Colour) -> GameEnd
     }
 }
 
-/// How a game ended by the text of its verdict, which is what stands behind the numbers in its
-/// line, without the LF.
+/// How a game ended, from the text of its verdict: the part of its line after the numbers, without
+/// the LF.
 ///
-/// `result WhiteWins` and `result BlackWins` say that a side won by the rules, and `result Draw`
-/// that the game is drawn, as is one whose text begins with `limit `. Where it begins with
-/// `forfeit white ` or `forfeit black `, that side forfeited and the other one won. No other text
-/// tells an end.
+/// `result WhiteWins` and `result BlackWins` say that a side won by the rules. `result Draw`, or a
+/// text that begins with `limit `, says that the game is drawn. If the text begins with `forfeit
+/// white ` or `forfeit black `, that side forfeited and the other one won. No other text says how a
+/// game ended.
 pub fn end_of_text(text: &[u8]) -> Option<GameEnd>
     ensures { result ≡ end_in_text text.now }
 {

@@ -14,7 +14,7 @@ use tournament_edge::Clocks;
 /// The most games that are played at once.
 const MOST_AT_ONCE: usize = 64;
 
-/// One game. Where its match met want of memory nothing is told of it.
+/// Plays one game. If its match ran out of memory, the game has no outcome.
 fn run_one<L: Link, G: Game + Drop, M: Clocks>(
     alloc: Global,
     tournament: &Tournament,
@@ -26,7 +26,7 @@ fn run_one<L: Link, G: Game + Drop, M: Clocks>(
     let _ = job.play::<G, M>(alloc, tournament, clocks);
 }
 
-/// All games, each in a thread of its own where one can be made.
+/// Plays all games, each in a thread of its own if one can be made.
 fn run_each<R: Threads + Sync, L: Link + Send, G: Game + Send + Drop, M: Clocks + Sync>(
     rt: &R,
     alloc: Global,
@@ -46,7 +46,7 @@ fn run_each<R: Threads + Sync, L: Link + Send, G: Game + Send + Drop, M: Clocks 
     );
 }
 
-/// All games of a wave, at once where threads can be had.
+/// Plays all games of a wave, at once if threads can be had.
 pub(crate) fn run_wave<R: Threads + Sync, L: Link + Send, G: Game + Send + Drop, M: Clocks + Sync>(
     rt: &R,
     alloc: Global,

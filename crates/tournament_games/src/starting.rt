@@ -1,4 +1,4 @@
-//! The starts of the programs of a wave, game by game.
+//! Starting the programs of a wave, game by game.
 ghost use Rattle.std.specs.Prelude.{
   ◌≡◌,
   ◌≤◌,
@@ -33,7 +33,7 @@ use io_edge::{Spawner, StartFault};
 use std::alloc::{AllocError, Global};
 use tournament_core::Fixture;
 
-/// The words of the program with this number, the first one being 1.
+/// The words of the program with this number, counted from 1.
 fn words_of(programs: &[Program], number: u32) -> &[String]
     requires low { 1 ≤ number }
     requires high { number ≤ length programs.now }
@@ -43,7 +43,8 @@ fn words_of(programs: &[Program], number: u32) -> &[String]
     programs[(number - 1) as usize].words()
 }
 
-/// Starts a program: none where it could not be started. The only error is want of memory.
+/// Starts a program. There is no link if it could not be started. The only error is running out of
+/// memory.
 fn start_one<P: Spawner>(words: &[String], spawner: &mut P) -> Result<Option<P::Engine>, AllocError>
     requires some { 0 < length words.now }
     ensures started { IfOk result (λ link. IsStart (map string_bytes words.now)
@@ -61,7 +62,7 @@ fn start_one<P: Spawner>(words: &[String], spawner: &mut P) -> Result<Option<P::
     }
 }
 
-/// Starts black's program of a game beside white's, which is closed where memory is wanting.
+/// Starts black's program of a game after white's. If memory runs out, white's is closed.
 fn start_black<P: Spawner>(
     words: &[String],
     number: u64,
@@ -87,8 +88,8 @@ fn start_black<P: Spawner>(
     }
 }
 
-/// Starts the programs of a game, white's first, and black's only where white's was started. After
-/// want of memory none of them is left open.
+/// Starts the programs of a game, white's first, and black's only if white's was started. If memory
+/// ran out, none of them is left open.
 fn start_game<P: Spawner>(
     programs: &[Program],
     number: u64,
@@ -110,7 +111,7 @@ fn start_game<P: Spawner>(
     }
 }
 
-/// The games with one more. Where there is no memory for it, all links are closed.
+/// The games with one more. If there is no memory for it, all links are closed.
 fn keep_job<P: Spawner>(
     job: Job<P::Engine>,
     mut jobs: Vec<Job<P::Engine>>,
@@ -131,8 +132,8 @@ fn keep_job<P: Spawner>(
     }
 }
 
-/// Starts the programs of a further game, and keeps it behind the others. After want of memory no
-/// link is left open, neither one of the others.
+/// Starts the programs of a further game, and adds it after the others. If memory ran out, no link
+/// is left open, including those of the others.
 fn start_next<P: Spawner>(
     programs: &[Program],
     number: u64,
@@ -157,8 +158,8 @@ fn start_next<P: Spawner>(
     }
 }
 
-/// Starts the programs of the games of a wave: of so many games, when so many were played before.
-/// After want of memory none of them is left open.
+/// Starts the programs of the `count` games of a wave, after `first` games that were played before.
+/// If memory ran out, none of them is left open.
 pub(crate) fn start_wave<P: Spawner>(
     alloc: Global,
     tournament: &Tournament,

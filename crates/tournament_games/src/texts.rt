@@ -1,4 +1,4 @@
-//! The lines that tell a game, and those of the standings.
+//! The lines of a game, and those of the standings.
 ghost use Rattle.std.specs.Prelude.{◌≡◌, ◌≤◌, ◌++◌, decimal, length, map, OnOk, IfOk};
 ghost use Rattle.std.specs.List.{flat_map};
 ghost use Rattle.hive_model.specs.Games.{IsGame};
@@ -75,7 +75,7 @@ fn end_by(verdict: &Verdict) -> GameEnd
     }
 }
 
-/// How a match ended, where it has a verdict.
+/// How a match ended, if it has a verdict; otherwise it counts as drawn.
 fn end_in<G: Game + Drop>(referee: &Referee<G>) -> GameEnd
     ensures { result ≡ end_in referee.now.verdict }
 {
@@ -159,7 +159,7 @@ fn write_forfeit(
     out.push(b'\n')
 }
 
-/// What is told of a game whose match was run.
+/// The outcome of a game with a match that was run.
 pub(crate) fn tell_match<G: Game + Drop>(
     alloc: Global,
     setup: Setup,
@@ -179,8 +179,8 @@ pub(crate) fn tell_match<G: Game + Drop>(
     })
 }
 
-/// What is told of a game for which a side's program could not be started: the moves that it would
-/// have begun with, and the forfeit.
+/// The outcome of a game for which a side's program could not be started: the moves of its opening,
+/// and the forfeit.
 pub(crate) fn tell_absence<G: Game + Drop>(
     alloc: Global,
     setup: Setup,
@@ -214,7 +214,7 @@ fn write_text(out: &mut ReplyText, programs: &[Program], number: u32) -> Result<
     }
 }
 
-/// Appends a word, with a space before it and behind it, and a number.
+/// Appends a word, with a space before and after it, and a number.
 fn write_count(out: &mut ReplyText, word: &[u8], count: u64) -> Result<(), AllocError>
     ensures { OnOk result (out.new ≡ out.old ++ (word.now ++ decimal count)) }
 {
@@ -222,7 +222,7 @@ fn write_count(out: &mut ReplyText, word: &[u8], count: u64) -> Result<(), Alloc
     write_number(out, count)
 }
 
-/// Appends how the games of an engine ended, which ends its line of the standings.
+/// Appends how the games of an engine ended, at the end of its line of the standings.
 fn write_ends(out: &mut ReplyText, place: Place) -> Result<(), AllocError>
     ensures { OnOk result (out.new ≡ out.old ++ ends_text place) }
 {
@@ -233,7 +233,7 @@ fn write_ends(out: &mut ReplyText, place: Place) -> Result<(), AllocError>
     out.push(b'\n')
 }
 
-/// Appends the line of an engine of the standings.
+/// Appends an engine's line of the standings.
 fn write_place(out: &mut ReplyText, programs: &[Program], place: Place) -> Result<(), AllocError>
     ensures { OnOk result (out.new ≡ out.old ++ standing_text programs.now place) }
 {

@@ -1,4 +1,4 @@
-//! What a tournament is played by.
+//! The terms of a tournament.
 ghost use Rattle.std.specs.Prelude.{◌≡◌, ◌≤◌, length};
 ghost use Rattle.std.specs.List.{All};
 ghost use Rattle.hive_model.specs.Games.{IsGame};
@@ -14,9 +14,9 @@ use match_core::Setup;
 use std::marker::Model;
 use tournament_core::{Fixture, Plan};
 
-/// What a tournament is played by: the programs of its 2 to 64 engines, who plays whom and how
-/// often, how each match is played, the moves of each opening, and how many games are played at
-/// once, 1 to 64.
+/// The terms of a tournament: its 2 to 64 programs, its plan, the setup of each match, and the
+/// moves of each opening. The plan says who plays whom, and how often. `at_once`, 1 to 64, says how
+/// many games are played at once.
 #[derive(Drop)]
 pub struct Tournament {
     programs: Vec<Program>,
@@ -39,7 +39,7 @@ impl Model for Tournament {
 
 impl Tournament {
     /// A tournament of these programs. The plan has as many engines as there are programs, and as
-    /// many openings as are given; each of these is a game of the setup's type.
+    /// many openings as are given. Each opening is a game of the setup's type.
     pub fn new(
         programs: Vec<Program>,
         plan: Plan,
@@ -76,7 +76,7 @@ impl Tournament {
         self.plan
     }
 
-    /// How each match is played.
+    /// The setup of each match.
     pub fn setup(&self) -> Setup
         ensures value { result ≡ self.now.setup }
         ensures valid { IsSetup result }
@@ -92,7 +92,7 @@ impl Tournament {
         self.openings.as_slice()
     }
 
-    /// How many games are played at once, at most.
+    /// The greatest number of games that are played at once, 1 to 64.
     pub fn at_once(&self) -> u32
         ensures value { result ≡ self.now.at_once }
         ensures some { 1 ≤ result }
@@ -101,7 +101,7 @@ impl Tournament {
         self.at_once
     }
 
-    /// The moves that a game begins with; none where there is no such opening.
+    /// The moves that a game begins with. There are none if there is no such opening.
     pub(crate) fn begin(&self, fixture: Fixture) -> &[Move]
         ensures value { result.now ≡ begin_of self.now fixture }
         ensures game { IsGame self.now.setup.game_type result.now }

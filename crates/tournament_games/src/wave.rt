@@ -1,4 +1,4 @@
-//! A wave of games: their programs are started, the games are played, and the programs closed.
+//! A wave of games: their programs are started, the games are played, and the programs are closed.
 ghost use Rattle.std.specs.Prelude.{◌≡◌, ◌≤◌, ◌+◌, ◌^◌, length, IfOk, OnErr, OnOk};
 ghost use Rattle.tournament_core.specs.Schedules.{schedule};
 ghost use Rattle.tournament_games.specs.Links.{Shuts};
@@ -16,9 +16,9 @@ use std::thread::Threads;
 use tournament_core::Tally;
 use tournament_edge::Clocks;
 
-/// Plays so many games when so many were played before them, at once where threads can be had, and
-/// notes them. Their programs are started first, one after the other, and closed behind the games
-/// in the same order, also where memory is wanting. The text tells the games, in their order.
+/// Plays `count` games after `first` earlier ones, at once if threads can be had, and notes them.
+/// Their programs are started first, one after the other. They are closed after the games in the
+/// same order, even if memory runs out. The text has the lines of the games, in their order.
 pub(crate) fn play_wave<R: Threads + Sync, P: Spawner, G: Game + Send + Drop, M: Clocks + Sync>(
     rt: &R,
     alloc: Global,

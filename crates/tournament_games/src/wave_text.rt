@@ -1,4 +1,4 @@
-//! What is told of a wave.
+//! The lines of a wave.
 ghost use Rattle.std.specs.Prelude.{◌≡◌, ◌≢◌, ◌+◌, ◌^◌, ◌≤◌, ◌<◌, ◌++◌, ◌∷◌, [], List, length, None, IfOk, OnOk};
 ghost use Rattle.std.specs.List.{All};
 ghost use Rattle.tournament_core.specs.Schedules.{IsFixture};
@@ -13,7 +13,8 @@ use io_edge::Link;
 use std::alloc::{AllocError, Global};
 use tournament_core::Tally;
 
-/// Appends the lines of a game, and notes it. Where nothing is told of it, memory was wanting.
+/// Appends the lines of a game, and notes it. It is an error if the game has no outcome, since then
+/// memory ran out.
 fn tell_job<L: Link>(out: &mut ReplyText, job: &Job<L>, tally: &mut Tally) -> Result<(), AllocError>
     requires fixture { IsFixture tally.old.engines job.now.fixture }
     requires room { tally.old.games < 2 ^ 42 }
@@ -34,8 +35,8 @@ fn tell_job<L: Link>(out: &mut ReplyText, job: &Job<L>, tally: &mut Tally) -> Re
     }
 }
 
-/// The lines of the games of a wave, in their order; each game is noted. Where nothing is told of
-/// one of them, memory was wanting.
+/// The lines of the games of a wave, in their order. Each game is noted. It is an error if one of
+/// them has no outcome, since then memory ran out.
 pub(crate) fn tell_wave<L: Link>(
     alloc: Global,
     jobs: &[Job<L>],
