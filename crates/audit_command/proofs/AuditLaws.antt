@@ -7,7 +7,7 @@ use Rattle.command_runs.specs.World.{World}
 use Rattle.command_runs.specs.declared.status.Status.{Status}
 use Rattle.command_runs.specs.declared.status.Status.TheVariants.{Done, Refused, Usage, ReadFault, WriteFault, SpawnFault, BadInput, Memory, InputFull}
 use Rattle.command_runs.proofs.ServedLemmas.{no_failure}
-use Rattle.audit_core.specs.declared.plan.Plan.{Plan}
+use Rattle.audit_core.specs.declared.plan.AuditPlan.{AuditPlan}
 use Rattle.audit_core.specs.AuditState.{AuditState}
 use Rattle.audit_core.specs.Audits.{audit_of}
 use Rattle.audit_core.proofs.Found.{audits_find_faults}
@@ -35,7 +35,7 @@ audits_are_done plan ReadFault before after run bytes served = absurd run
 audits_are_done plan BadInput before after run bytes served = absurd run
 
 -- the audit is that of what the program says
-whole_of : (plan : Plan) (t : AuditState) (status : Status) (before after : World) (bytes : List ℕ) → AuditOver plan t before.engines after.engines → IsServed status before after bytes
+whole_of : (plan : AuditPlan) (t : AuditState) (status : Status) (before after : World) (bytes : List ℕ) → AuditOver plan t before.engines after.engines → IsServed status before after bytes
     → (Rose before.engines.engine_faults after.engines.engine_faults → ⊥) → t ≡ audit_of plan (lines bytes)
 whole_of plan t status before after bytes over served calm =
     let one = over.programs (bytes ∷ served.others) served.says in

@@ -12,12 +12,12 @@ use Rattle.command_runs.specs.Answered.{WritesAs}
 use Rattle.command_runs.specs.World.{World}
 use Rattle.command_runs.specs.declared.status.Status.{Status}
 use Rattle.command_runs.specs.declared.status.Status.TheVariants.{Done, Refused, SpawnFault}
-use Rattle.audit_core.specs.declared.plan.Plan.{Plan}
+use Rattle.audit_core.specs.declared.plan.AuditPlan.{AuditPlan}
 use Rattle.audit_core.specs.AuditState.{AuditState}
 use Rattle.audit_core.specs.Audits.{sent_in}
 use Rattle.audit_command.specs.Wires.{HasFailed, Wire}
 use Rattle.audit_command.specs.Runs.{Ends, RanOver}
-use Rattle.audit_command.specs.Audit.{AuditRun, AuditStarts, AuditedOver, CountsFault, IsStarted, NoneIsOpen, AuditOver, verdict_of}
+use Rattle.audit_command.specs.Audit.{AuditRun, AuditStarts, AuditedOver, CountsFault, IsStarted, NoProgramIsOpen, AuditOver, verdict_of}
 
 -- a link that failed has counted it
 failed : (w0 w : Wire) → w0.reads ≡ 0 → w0.writes ≡ 0 → HasFailed w0 w → 0 < w.reads + w.writes
@@ -29,13 +29,13 @@ from_none : (old new : Told) (bytes : List ℕ) → old ≡ Some [] → new ≡ 
 from_none old new bytes e f = f ∙ ap (λ o. behind o bytes) e
 
 -- how it ended, once the failures of the link are counted
-ends_so : {A B C D : Type 0} (plan : Plan) (marks : List Mark) (sent : List ℕ) (t : AuditState) → (A → C) → (B → D) → Ends plan marks sent t A B → Ends plan marks sent t C D
+ends_so : {A B C D : Type 0} (plan : AuditPlan) (marks : List Mark) (sent : List ℕ) (t : AuditState) → (A → C) → (B → D) → Ends plan marks sent t A B → Ends plan marks sent t C D
 ends_so plan marks sent t f g (inl e) = inl e
 ends_so plan marks sent t f g (inr (inl (e, all, rose))) = inr (inl (e, all, f rose))
 ends_so plan marks sent t f g (inr (inr (e, part, rose))) = inr (inr (e, part, g rose))
 
 -- the audit that was run, once the program is closed
-pub audited_over : (plan : Plan) (t : AuditState) (w0 w : Wire) (before after : Engines) → w0.reads ≡ 0 → w0.writes ≡ 0 → RanOver plan t w0 w
+pub audited_over : (plan : AuditPlan) (t : AuditState) (w0 w : Wire) (before after : Engines) → w0.reads ≡ 0 → w0.writes ≡ 0 → RanOver plan t w0 w
     → CountsFault (w.reads + w.writes) before.engine_faults after.engine_faults → Collects before.sent after.sent w.written → AuditedOver plan t w0.rest w0.written before after
 audited_over plan t w0 w before after r0 s0 ran counts closes =
     let counted : HasFailed w0 w → Rose before.engine_faults after.engine_faults = λ x. counts.failed (failed w0 w r0 s0 x) in
@@ -53,7 +53,7 @@ audited_over plan t w0 w before after r0 s0 ran counts closes =
           };
     }
 
-pub audited_ok : {E : Type 0} (r : Result AuditState E) (plan : Plan) (w0 w : Wire) (before after : Engines) → w0.reads ≡ 0 → w0.writes ≡ 0 → IfOk r (λ t. RanOver plan t w0 w)
+pub audited_ok : {E : Type 0} (r : Result AuditState E) (plan : AuditPlan) (w0 w : Wire) (before after : Engines) → w0.reads ≡ 0 → w0.writes ≡ 0 → IfOk r (λ t. RanOver plan t w0 w)
     → CountsFault (w.reads + w.writes) before.engine_faults after.engine_faults → Collects before.sent after.sent w.written → IfOk r (λ t. AuditedOver plan t w0.rest w0.written before after)
 audited_ok (Ok t) plan w0 w before after r0 s0 ran counts closes = audited_over plan t w0 w before after r0 s0 ran counts closes
 audited_ok (Err x) plan w0 w before after r0 s0 ran counts closes = tt
@@ -66,7 +66,7 @@ told_start (Some xs) None rest written all starts e = absurd starts
 told_start (Some xs) (Some ys) rest written all (bytes, xe, r, w) e = (bytes, ys, sym (same_Some _ _ e) ∙ xe, refl, r, w)
 
 -- the audit from before its program was started
-pub played_from : (plan : Plan) (t : AuditState) (rest written : Told) (before between after : Engines) → Starts before.to_come between.to_come rest written → after.to_come ≡ between.to_come
+pub played_from : (plan : AuditPlan) (t : AuditState) (rest written : Told) (before between after : Engines) → Starts before.to_come between.to_come rest written → after.to_come ≡ between.to_come
     → between.sent ≡ before.sent → between.engine_faults ≡ before.engine_faults → AuditedOver plan t rest written between after → AuditOver plan t before after
 played_from plan t rest written before between after starts stays sent faults a =
     let counted : Rose between.engine_faults after.engine_faults → Rose before.engine_faults after.engine_faults = λ rose. subst (λ n. Rose n after.engine_faults) faults rose in
@@ -97,12 +97,12 @@ some_of : (n : ℕ) → (n == 0) ≡ false → 0 < n
 some_of zero e = absurd (cc)
 some_of (suc n) e = omega arith
 
-whole_at : (plan : Plan) (t : AuditState) (status : Status) (before after : World) (b : Bool) → AuditOver plan t before.engines after.engines → after.sides.written ≡ behind before.sides.written t.text → (t.findings == 0) ≡ b
+whole_at : (plan : AuditPlan) (t : AuditState) (status : Status) (before after : World) (b : Bool) → AuditOver plan t before.engines after.engines → after.sides.written ≡ behind before.sides.written t.text → (t.findings == 0) ≡ b
     → status ≡ (if b then Done else Refused) → AuditRun plan status before after
 whole_at plan t status before after true played wrote k e = subst (λ s. AuditRun plan s before after) (sym e) (t, eqb-true t.findings 0 k, record { played = played; wrote = wrote })
 whole_at plan t status before after false played wrote k e = subst (λ s. AuditRun plan s before after) (sym e) (t, some_of t.findings k, record { played = played; wrote = wrote })
 
-pub told_as : (plan : Plan) (t : AuditState) (status : Status) (before after : World) → AuditOver plan t before.engines after.engines → WritesAs t.text (verdict_of t.findings) status before.sides.written after.sides.written → AuditRun plan status before after
+pub told_as : (plan : AuditPlan) (t : AuditState) (status : Status) (before after : World) → AuditOver plan t before.engines after.engines → WritesAs t.text (verdict_of t.findings) status before.sides.written after.sides.written → AuditRun plan status before after
 told_as plan t status before after played (inl (e, wrote)) = whole_at plan t status before after (t.findings == 0) played wrote refl e
 told_as plan t status before after played (inr (e, (n, low, wrote))) =
     subst (λ s. AuditRun plan s before after) (sym e) (t, n, record { played = played; cut = low; wrote = wrote })
@@ -139,7 +139,7 @@ none_failed text n status w0 w before after told same = record {
 }
 
 -- one start took one of those to come, and one close added one: none is left open
-pub none_open : (before between after : Engines) (rest written w : Told) → Starts before.to_come between.to_come rest written → after.to_come ≡ between.to_come → between.sent ≡ before.sent → Collects between.sent after.sent w → NoneIsOpen before after
+pub none_open : (before between after : Engines) (rest written w : Told) → Starts before.to_come between.to_come rest written → after.to_come ≡ between.to_come → between.sent ≡ before.sent → Collects between.sent after.sent w → NoProgramIsOpen before after
 none_open before between after rest written w starts stays sent closes = record {
   even = λ coming later opened closed e f g h.
       let one = one_taken coming later rest written (subst (λ x. Starts x (Some later) rest written) e (subst (λ x. Starts before.to_come x rest written) (sym stays ∙ f) starts)) in
@@ -148,7 +148,7 @@ none_open before between after rest written w starts stays sent closes = record 
 }
 
 -- no program was started, and none closed
-pub none_taken : (before after : Engines) → after.to_come ≡ before.to_come → after.sent ≡ before.sent → NoneIsOpen before after
+pub none_taken : (before after : Engines) → after.to_come ≡ before.to_come → after.sent ≡ before.sent → NoProgramIsOpen before after
 none_taken before after stays sent = record {
   even = λ coming later opened closed e f g h.
       let one = ap length (same_Some _ _ (sym e ∙ (sym stays ∙ f))) in

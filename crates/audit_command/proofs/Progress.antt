@@ -10,7 +10,7 @@ use Rattle.line_feed.specs.Feed.{fresh}
 use Rattle.line_feed.specs.Ahead.{ahead_of}
 use Rattle.line_feed.proofs.AheadLemmas.{ahead_begin}
 use Rattle.command_runs.proofs.WrittenLemmas.{behind_none}
-use Rattle.audit_core.specs.declared.plan.Plan.{Plan}
+use Rattle.audit_core.specs.declared.plan.AuditPlan.{AuditPlan}
 use Rattle.audit_core.specs.declared.plan.Stage.{Stage}
 use Rattle.audit_core.specs.declared.plan.Stage.TheVariants.{Greeting, Beginning, Listing, Playing, Undoing, Reviewing, Trying, Relisting, Loading, Finishing, Over}
 use Rattle.audit_core.specs.declared.findings.Fault.{Fault}
@@ -23,7 +23,7 @@ use Rattle.audit_command.specs.declared.turns.Turned.TheVariants.{Heard, Long, E
 use Rattle.audit_command.specs.Runs.{RanOver, unread}
 
 -- these lines were read, and the bytes that go before them were written
-pub record Progress (plan : Plan) (s : AuditState) (ahead0 ahead : ToldLines) (w0 w : Told)
+pub record Progress (plan : AuditPlan) (s : AuditState) (ahead0 ahead : ToldLines) (w0 w : Told)
     : Type 0 where
   pub marks : List Mark
   pub here : s ≡ after_all (start plan) marks
@@ -34,7 +34,7 @@ none_before : (a : ToldLines) → a ≡ option_map (λ (more : List Mark). [] ++
 none_before None = refl
 none_before (Some xs) = refl
 
-pub progress_begin : (plan : Plan) (s : AuditState) (a : ToldLines) (w : Told) → s ≡ start plan → Progress plan s a a w w
+pub progress_begin : (plan : AuditPlan) (s : AuditState) (a : ToldLines) (w : Told) → s ≡ start plan → Progress plan s a a w w
 progress_begin plan s a w e = record { marks = []; here = e; left = none_before a; wrote = behind_none w }
 
 -- One more line
@@ -51,7 +51,7 @@ left-snoc : (marks : List Mark) (mark : Mark) (old new : ToldLines) → old ≡ 
 left-snoc marks mark old None e = ap (option_map (λ (more : List Mark). marks ++ more)) e
 left-snoc marks mark old (Some xs) e = ap (option_map (λ (more : List Mark). marks ++ more)) e ∙ ap (λ (r : List Mark). Some r) (sym (append_assoc marks (mark ∷ []) xs))
 
-pub progress_on : (plan : Plan) (s t : AuditState) (a0 a1 a2 : ToldLines) (w0 w1 w2 : Told) → Progress plan s a0 a1 w0 w1 → Turns Heard s t a1 a2 w1 w2 → Progress plan t a0 a2 w0 w2
+pub progress_on : (plan : AuditPlan) (s t : AuditState) (a0 a1 a2 : ToldLines) (w0 w1 w2 : Told) → Progress plan s a0 a1 w0 w1 → Turns Heard s t a1 a2 w1 w2 → Progress plan t a0 a2 w0 w2
 progress_on plan s t a0 a1 a2 w0 w1 w2 p (mark, next, ahead, wrote) = record {
   marks = p.marks ++ mark ∷ [];
   here = next ∙ (ap (λ (x : AuditState). step x mark) p.here ∙ sym (after_all-snoc (start plan) p.marks mark));
@@ -107,7 +107,7 @@ absent None xs e f = cc
 absent (Some ys) xs e f = cc
 
 -- the lines that were read are the first of those that a fresh reader will give
-first_of : (plan : Plan) (s : AuditState) (a : ToldLines) (w0 w rest : Told) → (p : Progress plan s (ahead_of fresh rest) a w0 w) → (bytes : List ℕ) → rest ≡ Some bytes
+first_of : (plan : AuditPlan) (s : AuditState) (a : ToldLines) (w0 w rest : Told) → (p : Progress plan s (ahead_of fresh rest) a w0 w) → (bytes : List ℕ) → rest ≡ Some bytes
     → (more : List Mark) × (a ≡ Some more) × (lines bytes ≡ p.marks ++ more)
 first_of plan s None w0 w rest p bytes e = absurd (absent (ahead_of fresh rest) (lines bytes) p.left (ap (ahead_of fresh) e ∙ ahead_begin fresh (Some bytes) refl))
 first_of plan s (Some more) w0 w rest p bytes e = (more, refl, same_Some _ _ (sym (sym p.left ∙ (ap (ahead_of fresh) e ∙ ahead_begin fresh (Some bytes) refl))))
@@ -115,13 +115,13 @@ first_of plan s (Some more) w0 w rest p bytes e = (more, refl, same_Some _ _ (sy
 close-over : (s : AuditState) → is_ended s.stage ≡ true → close s ≡ s
 close-over s e = ap (λ b. cond b s (break_off s Ended)) e
 
-audit-over : (plan : Plan) (s : AuditState) (marks more : List Mark) → s ≡ after_all (start plan) marks → is_ended s.stage ≡ true → s ≡ audit_of plan (marks ++ more)
+audit-over : (plan : AuditPlan) (s : AuditState) (marks more : List Mark) → s ≡ after_all (start plan) marks → is_ended s.stage ≡ true → s ≡ audit_of plan (marks ++ more)
 unfolding audit_of
 audit-over plan s marks more e o =
     let there : after_all (start plan) (marks ++ more) ≡ s = after_all-append (start plan) marks more ∙ (ap (λ (x : AuditState). after_all x more) (sym e) ∙ stays s more o) in
     sym (ap close there ∙ close-over s o)
 
-sent-all-over : (plan : Plan) (s : AuditState) (marks more : List Mark) → s ≡ after_all (start plan) marks → is_ended s.stage ≡ true → sent_over (start plan) marks ≡ sent_in plan (marks ++ more)
+sent-all-over : (plan : AuditPlan) (s : AuditState) (marks more : List Mark) → s ≡ after_all (start plan) marks → is_ended s.stage ≡ true → sent_over (start plan) marks ≡ sent_in plan (marks ++ more)
 unfolding sent_in
 sent-all-over plan s marks more e o =
     let there : after_all (start plan) (marks ++ more) ≡ s = after_all-append (start plan) marks more ∙ (ap (λ (x : AuditState). after_all x more) (sym e) ∙ stays s more o) in
@@ -135,7 +135,7 @@ all-marks [] = refl
 all-marks (m ∷ ms) = ap (λ (r : List Mark). m ∷ r) (all-marks ms)
 
 -- it came to its end by itself
-pub ran_over : (plan : Plan) (t : AuditState) (a : ToldLines) (w0 w : Wire) → Progress plan t (ahead_of fresh w0.rest) a w0.written w.written → is_ended t.stage ≡ true → RanOver plan t w0 w
+pub ran_over : (plan : AuditPlan) (t : AuditState) (a : ToldLines) (w0 w : Wire) → Progress plan t (ahead_of fresh w0.rest) a w0.written w.written → is_ended t.stage ≡ true → RanOver plan t w0 w
 ran_over plan t a w0 w p o = record {
   over = o;
   marks = p.marks;
@@ -161,7 +161,7 @@ unfolding at_mark
 long-over s t o e = ap (λ (x : AuditState). is_ended x.stage) (e ∙ ap (λ b. cond b s (at_mark (sent s) TooLong)) o)
 
 -- a line was too long
-pub ran_long : (plan : Plan) (s t : AuditState) (a1 a2 : ToldLines) (w0 w : Wire) (w1 : Told) → Progress plan s (ahead_of fresh w0.rest) a1 w0.written w1 → is_ended s.stage ≡ false → Turns Long s t a1 a2 w1 w.written → RanOver plan t w0 w
+pub ran_long : (plan : AuditPlan) (s t : AuditState) (a1 a2 : ToldLines) (w0 w : Wire) (w1 : Told) → Progress plan s (ahead_of fresh w0.rest) a1 w0.written w1 → is_ended s.stage ≡ false → Turns Long s t a1 a2 w1 w.written → RanOver plan t w0 w
 ran_long plan s t a1 a2 w0 w w1 p o (next, long, wrote) =
     let behind_it = long_rest a1 long in
     let q = progress_on plan s t (ahead_of fresh w0.rest) a1 behind_it.0 w0.written w1 w.written p (TooLong, next, behind_it.1, wrote) in
@@ -171,12 +171,12 @@ broken-over : (s t : AuditState) (fault : Fault) → t ≡ break_off s fault →
 broken-over s t fault e = ap (λ (x : AuditState). is_ended x.stage) e
 
 -- the bytes that were sent before the last line, and that line
-sent-last : (plan : Plan) (s : AuditState) (marks : List Mark) (w0 w1 w2 : Told) → s ≡ after_all (start plan) marks → w1 ≡ behind w0 (sent_over (start plan) marks) → w2 ≡ behind w1 (line_now s) → w2 ≡ behind w0 (sent_in plan marks)
+sent-last : (plan : AuditPlan) (s : AuditState) (marks : List Mark) (w0 w1 w2 : Told) → s ≡ after_all (start plan) marks → w1 ≡ behind w0 (sent_over (start plan) marks) → w2 ≡ behind w1 (line_now s) → w2 ≡ behind w0 (sent_in plan marks)
 unfolding sent_in
 sent-last plan s marks w0 w1 w2 e f g =
     g ∙ (ap (λ (x : Told). behind x (line_now s)) f ∙ (behind-behind w0 (sent_over (start plan) marks) (line_now s) ∙ ap (λ (x : AuditState). behind w0 (sent_over (start plan) marks ++ line_now x)) e))
 
-closed : (plan : Plan) (s : AuditState) (marks : List Mark) → s ≡ after_all (start plan) marks → is_ended s.stage ≡ false → break_off s Ended ≡ audit_of plan marks
+closed : (plan : AuditPlan) (s : AuditState) (marks : List Mark) → s ≡ after_all (start plan) marks → is_ended s.stage ≡ false → break_off s Ended ≡ audit_of plan marks
 unfolding audit_of
 closed plan s marks e o = sym (ap close (sym e) ∙ ap (λ b. cond b s (break_off s Ended)) o)
 
@@ -185,7 +185,7 @@ nothing_left None more n e = absurd (cc)
 nothing_left (Some xs) more n e = sym (same_Some _ _ e) ∙ n
 
 -- the engine's output ended
-pub ran_out : (plan : Plan) (s u t : AuditState) (a1 a2 : ToldLines) (w0 w : Wire) (w1 : Told) → Progress plan s (ahead_of fresh w0.rest) a1 w0.written w1 → is_ended s.stage ≡ false → Turns NoLine s u a1 a2 w1 w.written → t ≡ break_off u Ended → RanOver plan t w0 w
+pub ran_out : (plan : AuditPlan) (s u t : AuditState) (a1 a2 : ToldLines) (w0 w : Wire) (w1 : Told) → Progress plan s (ahead_of fresh w0.rest) a1 w0.written w1 → is_ended s.stage ≡ false → Turns NoLine s u a1 a2 w1 w.written → t ≡ break_off u Ended → RanOver plan t w0 w
 ran_out plan s u t a1 a2 w0 w w1 p o (next, none, wrote) e =
     let at : t ≡ audit_of plan p.marks = e ∙ (ap (λ (x : AuditState). break_off x Ended) next ∙ closed plan s p.marks p.here o) in
     let bytes_sent : w.written ≡ behind w0.written (sent_in plan p.marks) = sent-last plan s p.marks w0.written w1 w.written p.here p.wrote wrote in record {
@@ -205,7 +205,7 @@ ran_out plan s u t a1 a2 w0 w w1 p o (next, none, wrote) e =
     }
 
 -- a read failed
-pub ran_unread : (plan : Plan) (s u t : AuditState) (a1 a2 : ToldLines) (w0 w : Wire) (w1 : Told) → Progress plan s (ahead_of fresh w0.rest) a1 w0.written w1 → Turns ReadFault s u a1 a2 w1 w.written → t ≡ break_off u (unread plan) → Rose w0.reads w.reads → RanOver plan t w0 w
+pub ran_unread : (plan : AuditPlan) (s u t : AuditState) (a1 a2 : ToldLines) (w0 w : Wire) (w1 : Told) → Progress plan s (ahead_of fresh w0.rest) a1 w0.written w1 → Turns ReadFault s u a1 a2 w1 w.written → t ≡ break_off u (unread plan) → Rose w0.reads w.reads → RanOver plan t w0 w
 ran_unread plan s u t a1 a2 w0 w w1 p (next, same, wrote) e rose = record {
   over = broken-over u t (unread plan) e;
   marks = p.marks;
@@ -216,13 +216,13 @@ ran_unread plan s u t a1 a2 w0 w w1 p (next, same, wrote) e rose = record {
   told = λ bytes f calm. absurd (calm (inl rose));
 }
 
-sent-front : (plan : Plan) (s : AuditState) (marks : List Mark) (w0 w1 w2 : Told) (n : ℕ) → s ≡ after_all (start plan) marks → w1 ≡ behind w0 (sent_over (start plan) marks) → w2 ≡ behind w1 (take n (line_now s)) → w2 ≡ behind w0 (sent_over (start plan) marks ++ take n (line_now (after_all (start plan) marks)))
+sent-front : (plan : AuditPlan) (s : AuditState) (marks : List Mark) (w0 w1 w2 : Told) (n : ℕ) → s ≡ after_all (start plan) marks → w1 ≡ behind w0 (sent_over (start plan) marks) → w2 ≡ behind w1 (take n (line_now s)) → w2 ≡ behind w0 (sent_over (start plan) marks ++ take n (line_now (after_all (start plan) marks)))
 sent-front plan s marks w0 w1 w2 n e f g =
     g ∙ (ap (λ (x : Told). behind x (take n (line_now s))) f ∙ (behind-behind w0 (sent_over (start plan) marks) (take n (line_now s))
     ∙ ap (λ (x : AuditState). behind w0 (sent_over (start plan) marks ++ take n (line_now x))) e))
 
 -- a write failed
-pub ran_unsent : (plan : Plan) (s u t : AuditState) (a1 a2 : ToldLines) (w0 w : Wire) (w1 : Told) → Progress plan s (ahead_of fresh w0.rest) a1 w0.written w1 → Turns WriteFault s u a1 a2 w1 w.written → t ≡ break_off u Broke → Rose w0.writes w.writes → RanOver plan t w0 w
+pub ran_unsent : (plan : AuditPlan) (s u t : AuditState) (a1 a2 : ToldLines) (w0 w : Wire) (w1 : Told) → Progress plan s (ahead_of fresh w0.rest) a1 w0.written w1 → Turns WriteFault s u a1 a2 w1 w.written → t ≡ break_off u Broke → Rose w0.writes w.writes → RanOver plan t w0 w
 ran_unsent plan s u t a1 a2 w0 w w1 p (next, same, (n, low, wrote)) e rose = record {
   over = broken-over u t Broke e;
   marks = p.marks;

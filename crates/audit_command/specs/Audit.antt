@@ -7,7 +7,7 @@ use Rattle.line_feed.specs.Feed.{input_limit}
 use Rattle.command_runs.specs.World.{World}
 use Rattle.command_runs.specs.declared.status.Status.{Status}
 use Rattle.command_runs.specs.declared.status.Status.TheVariants.{Done, Refused, Usage, ReadFault, WriteFault, SpawnFault, BadInput, Memory, InputFull}
-use Rattle.audit_core.specs.declared.plan.Plan.{Plan}
+use Rattle.audit_core.specs.declared.plan.AuditPlan.{AuditPlan}
 use Rattle.audit_core.specs.AuditState.{AuditState, is_ended}
 use Rattle.audit_core.specs.Audits.{audit_of, sent_in}
 use Rattle.audit_command.specs.Runs.{Ends, IsFront}
@@ -15,14 +15,14 @@ use Rattle.audit_command.specs.Runs.{Ends, IsFront}
 -- What was played
 
 -- The audit is that of the lines of this program, which got what is sent for them.
-pub record IsWhole (plan : Plan) (bytes : List ℕ) (t : AuditState) (before after : Engines)
+pub record IsWhole (plan : AuditPlan) (bytes : List ℕ) (t : AuditState) (before after : Engines)
     : Type 0 where
   pub audit : t ≡ audit_of plan (lines bytes)
   pub gains : Collects before.sent after.sent (Some (sent_in plan (lines bytes)))
 
 -- The first of the programs to come was started, and no other. These lines are the first ones that
 -- it says, and it got these bytes. If no failure of it was counted, its audit is whole.
-pub record StartsOneOf (all : List (List ℕ)) (plan : Plan) (marks : List Mark) (sent : List ℕ)
+pub record StartsOneOf (all : List (List ℕ)) (plan : AuditPlan) (marks : List Mark) (sent : List ℕ)
     (t : AuditState) (before after : Engines) : Type 0 where
   pub bytes : List ℕ
   pub others : List (List ℕ)
@@ -36,7 +36,7 @@ pub record StartsOneOf (all : List (List ℕ)) (plan : Plan) (marks : List Mark)
 -- An audit came to its end, in this state. These lines were read, and these bytes were sent for
 -- them. Either the audit is that of the lines, or a call of the link failed after them and was
 -- counted. What its program says determines the lines.
-pub record AuditOver (plan : Plan) (t : AuditState) (before after : Engines) : Type 0 where
+pub record AuditOver (plan : AuditPlan) (t : AuditState) (before after : Engines) : Type 0 where
   pub over : is_ended t.stage ≡ true
   pub marks : List Mark
   pub sent : List ℕ
@@ -48,12 +48,12 @@ pub record AuditOver (plan : Plan) (t : AuditState) (before after : Engines) : T
 -- The run
 
 -- The text of an audit that came to its end was written.
-pub record Tells (plan : Plan) (t : AuditState) (before after : World) : Type 0 where
+pub record Tells (plan : AuditPlan) (t : AuditState) (before after : World) : Type 0 where
   pub played : AuditOver plan t before.engines after.engines
   pub wrote : after.sides.written ≡ behind before.sides.written t.text
 
 -- The first n bytes of its text were written, and not all.
-pub record TellsPart (plan : Plan) (t : AuditState) (n : ℕ) (before after : World) : Type 0 where
+pub record TellsPart (plan : AuditPlan) (t : AuditState) (n : ℕ) (before after : World) : Type 0 where
   pub played : AuditOver plan t before.engines after.engines
   pub cut : n < length t.text
   pub wrote : after.sides.written ≡ behind before.sides.written (take n t.text)
@@ -81,7 +81,7 @@ pub record IsFull (before after : World) : Type 0 where
 -- What was written and played if an audit ends with this status. `Done` says that there is no
 -- finding, and `Refused` that there are some. If memory ran out, or the program has written as many
 -- bytes as the limit, nothing was written. An audit never ends with the remaining three statuses.
-abbrev pub AuditRun : Plan → Status → World → World → Type 0
+abbrev pub AuditRun : AuditPlan → Status → World → World → Type 0
 AuditRun plan Done before after =
     (t : AuditState) × (t.findings ≡ 0) × Tells plan t before after
 AuditRun plan Refused before after =
@@ -119,7 +119,7 @@ AuditStarts BadInput words before after = ⊥
 
 -- No program that was started is left open. If this is observable, as many were closed as were
 -- taken from those to come.
-pub record NoneIsOpen (before after : Engines) : Type 0 where
+pub record NoProgramIsOpen (before after : Engines) : Type 0 where
   pub even : (coming later opened closed : List (List ℕ))
       → before.to_come ≡ Some coming
       → after.to_come ≡ Some later
@@ -131,14 +131,14 @@ pub record NoneIsOpen (before after : Engines) : Type 0 where
 -- `SpawnFault`, a failed start.
 pub record EndsAudit
     (status : Status) (writes_before writes_after : ℕ) (before after : Engines) : Type 0 where
-  pub closed : NoneIsOpen before after
+  pub closed : NoProgramIsOpen before after
   pub writes : HasCause (status ≡ WriteFault) writes_before writes_after
   pub starts : HasCause (status ≡ SpawnFault) before.start_faults after.start_faults
 
 -- On the way
 
 -- An audit came to its end over the link of a started program, which was then closed.
-pub record AuditedOver (plan : Plan) (t : AuditState) (rest written : Told) (before after : Engines)
+pub record AuditedOver (plan : AuditPlan) (t : AuditState) (rest written : Told) (before after : Engines)
     : Type 0 where
   pub over : is_ended t.stage ≡ true
   pub marks : List Mark

@@ -7,7 +7,7 @@ use Rattle.command_runs.specs.Served.{NoFault}
 use Rattle.command_runs.specs.World.{World}
 use Rattle.command_runs.specs.declared.status.Status.{Status}
 use Rattle.command_runs.specs.declared.status.Status.TheVariants.{Done, Refused, WriteFault, SpawnFault, Memory}
-use Rattle.audit_core.specs.declared.plan.Plan.{Plan}
+use Rattle.audit_core.specs.declared.plan.AuditPlan.{AuditPlan}
 use Rattle.audit_core.specs.Laws.{AreRight}
 use Rattle.audit_core.specs.AuditState.{start}
 use Rattle.audit_command.specs.Audit.{AuditRun}
@@ -28,7 +28,7 @@ pub record IsServed (status : Status) (before after : World) (bytes : List ℕ) 
 -- or because memory ran out.
 abbrev pub AuditsAreDone : Type 0
 AuditsAreDone =
-    (plan : Plan) (status : Status) (before after : World)
+    (plan : AuditPlan) (status : Status) (before after : World)
     → AuditRun plan status before after
     → (bytes : List ℕ) → IsServed status before after bytes
     → (status ≡ Done) ⊎ ((status ≡ Refused) ⊎ (status ≡ Memory))
@@ -37,7 +37,7 @@ AuditsAreDone =
 -- right.
 abbrev pub AuditsAreRight : Type 0
 AuditsAreRight =
-    (plan : Plan) (status : Status) (before after : World)
+    (plan : AuditPlan) (status : Status) (before after : World)
     → AuditRun plan status before after
     → (bytes : List ℕ) → IsServed status before after bytes
     → ¬ Rose before.engines.engine_faults after.engines.engine_faults

@@ -26,7 +26,7 @@ ghost use Rattle.audit_command.specs.Audit.{
 };
 
 use crate::run::{Halt, run_audit};
-use audit_core::{Auditor, Plan};
+use audit_core::{Auditor, AuditPlan};
 use command_runs::{Status, end_with};
 use hive_model::Game;
 use io_edge::{Sink, Spawner, StartFault};
@@ -47,7 +47,7 @@ fn close_engine<P: Spawner>(engine: P::Engine, spawner: &mut P)
 fn audit_and_close<P: Spawner, G: Game + Drop>(
     alloc: Global,
     mut engine: P::Engine,
-    plan: Plan,
+    plan: AuditPlan,
     spawner: &mut P,
 ) -> Result<Auditor<G>, Halt>
     requires plan { IsPlan plan }
@@ -108,7 +108,7 @@ fn tell<K: Sink, G: Game + Drop>(auditor: &Auditor<G>, output: &mut K) -> Status
 pub fn audit_engine<P: Spawner, K: Sink, G: Game + Drop>(
     alloc: Global,
     words: &[String],
-    plan: Plan,
+    plan: AuditPlan,
     output: &mut K,
     spawner: &mut P,
 ) -> Status

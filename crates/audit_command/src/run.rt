@@ -6,7 +6,7 @@ ghost use Rattle.audit_command.specs.Wires.{TookLimit, wire};
 ghost use Rattle.audit_command.specs.Runs.{RanOver, unread};
 
 use crate::turns::{Turned, turn};
-use audit_core::{Auditor, Fault, Plan};
+use audit_core::{Auditor, Fault, AuditPlan};
 use hive_model::Game;
 use io_edge::Link;
 use line_feed::LineReader;
@@ -43,7 +43,7 @@ fn broken<G: Game + Drop>(mut auditor: Auditor<G>, fault: Fault) -> Result<Audit
 }
 
 /// The fault that a failed read is reported as.
-fn unread(plan: Plan) -> Fault
+fn unread(plan: AuditPlan) -> Fault
     ensures { result ≡ unread plan }
 {
     if plan.patient {
@@ -67,7 +67,7 @@ fn unread(plan: Plan) -> Fault
 pub fn run_audit<L: Link, G: Game + Drop>(
     alloc: Global,
     link: &mut L,
-    plan: Plan,
+    plan: AuditPlan,
 ) -> Result<Auditor<G>, Halt>
     requires { IsPlan plan }
     ensures over { IfOk result (λ a. RanOver plan a

@@ -11,7 +11,7 @@ use Rattle.hive_model.specs.Lists.{IsOn}
 use Rattle.hive_model.specs.Boards.{Stacks}
 use Rattle.hive_model.specs.Positions.{Position}
 use Rattle.hive_model.specs.Legal.{moves}
-use Rattle.hive_model.specs.Courses.{is_move}
+use Rattle.hive_model.specs.Histories.{is_move}
 use Rattle.hive_model.specs.Denotes.{text}
 use Rattle.hive_model.specs.Fields.{type_bytes}
 use Rattle.hive_model.specs.Strings.{parts}

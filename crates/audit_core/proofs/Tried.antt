@@ -16,7 +16,7 @@ use Rattle.hive_model.specs.Strings.{parts}
 use Rattle.io_edge.specs.Lines.{Line as Mark, Text, TooLong, greatest_line}
 use Rattle.grow_game.specs.Growing.{word}
 use Rattle.game_text.proofs.WriteLaws.{legal_part}
-use Rattle.audit_core.specs.declared.plan.Plan.{Plan}
+use Rattle.audit_core.specs.declared.plan.AuditPlan.{AuditPlan}
 use Rattle.audit_core.specs.declared.plan.Stage.{Stage}
 use Rattle.audit_core.specs.declared.plan.Stage.TheVariants.{Greeting, Beginning, Listing, Playing, Undoing, Reviewing, Trying, Relisting, Loading, Finishing, Over}
 use Rattle.audit_core.specs.declared.findings.Fault.TheVariants.{Unreadable}
@@ -223,7 +223,7 @@ all_so : (s : AuditState) (marks : List Mark) → Stands s → Stands (after_all
 all_so s [] h = h
 all_so s (mark ∷ marks) h = all_so (step s mark) marks (step_at s mark (is_ended s.stage) h)
 
-start_so : (plan : Plan) → IsPlan plan → Stands (start plan)
+start_so : (plan : AuditPlan) → IsPlan plan → Stands (start plan)
 start_so plan is = let few = is.few in (record { game = tt; game_whole = tt; few = omega arith; few_whole = omega arith; small = few }, tt)
 
 tried_at : (s : AuditState) (m : Move) → Stands s → s.stage ≡ Trying m → TriesIllegal s m

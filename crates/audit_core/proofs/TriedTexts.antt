@@ -14,7 +14,7 @@ use Rattle.hive_model.specs.Lists.{IsOn}
 use Rattle.hive_model.specs.Pieces.{OfType}
 use Rattle.hive_model.specs.Boards.{Stacks, IsBoard, is_occupied, put, stack_at, top_at, top_of, without}
 use Rattle.hive_model.specs.Positions.{Position, opening}
-use Rattle.hive_model.specs.Courses.{is_move}
+use Rattle.hive_model.specs.Histories.{is_move}
 use Rattle.hive_model.specs.Legal.{moves, pairs, state}
 use Rattle.hive_model.specs.Games.{IsGame, after, replay}
 use Rattle.hive_model.specs.Texts.{form_text}

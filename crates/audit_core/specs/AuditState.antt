@@ -9,7 +9,7 @@ use Rattle.hive_model.specs.Legal.{moves, is_over}
 use Rattle.hive_model.specs.Games.{replay}
 use Rattle.io_edge.specs.Lines.{Line as Mark, Text, TooLong, greatest_line}
 use Rattle.hive_model.specs.Strings.{parts}
-use Rattle.audit_core.specs.declared.plan.Plan.{Plan}
+use Rattle.audit_core.specs.declared.plan.AuditPlan.{AuditPlan}
 use Rattle.audit_core.specs.declared.plan.Stage.{Stage}
 use Rattle.audit_core.specs.declared.plan.Stage.TheVariants.{Greeting, Beginning, Listing, Playing, Undoing, Reviewing, Trying, Relisting, Loading, Finishing, Over}
 use Rattle.audit_core.specs.declared.findings.Fault.{Fault}
@@ -26,7 +26,7 @@ use Rattle.audit_core.specs.Texts.{asked_text, begin_line, list_line, load_line,
 -- The text to be written. The counts of findings, of lists that were right, and of the moves on
 -- them.
 pub record AuditState : Type 0 where
-  pub plan : Plan
+  pub plan : AuditPlan
   pub stage : Stage
   pub sending : Bool
   pub ended : ℕ
@@ -43,7 +43,7 @@ pub record AuditState : Type 0 where
   pub choices : ℕ
 
 -- the audit in this state
-abbrev pub audit_state : Plan → Stage → Bool → ℕ → GameType → GameType → List Move → List Move → ℕ
+abbrev pub audit_state : AuditPlan → Stage → Bool → ℕ → GameType → GameType → List Move → List Move → ℕ
     → Bool → List ℕ → List ℕ → ℕ → ℕ → ℕ → AuditState
 audit_state plan stage sending ended plays game_type moves whole state begun reply text findings
     positions choices = record {
@@ -86,7 +86,7 @@ abbrev pub base_type : GameType
 base_type = record { mosquito = false; ladybug = false; pillbug = false }
 
 -- The engine's greeting is read first.
-abbrev pub start : Plan → AuditState
+abbrev pub start : AuditPlan → AuditState
 start plan = record {
   plan = plan;
   stage = Greeting;

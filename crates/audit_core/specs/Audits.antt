@@ -1,7 +1,7 @@
 -- The audit of an engine that says these lines, and what it is sent.
 use Rattle.std.specs.Prelude.{ℕ, cond, List, [], ◌∷◌, ◌++◌}
 use Rattle.io_edge.specs.Lines.{Line as Mark}
-use Rattle.audit_core.specs.declared.plan.Plan.{Plan}
+use Rattle.audit_core.specs.declared.plan.AuditPlan.{AuditPlan}
 use Rattle.audit_core.specs.declared.findings.Fault.TheVariants.{Ended}
 use Rattle.audit_core.specs.AuditState.{AuditState, start, sent, line_now, at_mark, is_ended, break_off}
 
@@ -20,7 +20,7 @@ abbrev pub close : AuditState → AuditState
 close s = cond (is_ended s.stage) s (break_off s Ended)
 
 -- the audit of an engine that says exactly these lines
-unfoldable pub audit_of : Plan → List Mark → AuditState
+unfoldable pub audit_of : AuditPlan → List Mark → AuditState
 audit_of plan marks = close (after_all (start plan) marks)
 
 -- the bytes that were sent before these lines were read
@@ -29,5 +29,5 @@ sent_over s [] = []
 sent_over s (mark ∷ marks) = line_now s ++ sent_over (step s mark) marks
 
 -- the bytes that are sent to an engine that says exactly these lines
-unfoldable pub sent_in : Plan → List Mark → List ℕ
+unfoldable pub sent_in : AuditPlan → List Mark → List ℕ
 sent_in plan marks = sent_over (start plan) marks ++ line_now (after_all (start plan) marks)

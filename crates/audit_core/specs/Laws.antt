@@ -8,7 +8,7 @@ use Rattle.hive_model.specs.Positions.{Position}
 use Rattle.hive_model.specs.Legal.{moves}
 use Rattle.hive_model.specs.Denotes.{Denotes, text}
 use Rattle.io_edge.specs.Lines.{Line as Mark, Text, TooLong, greatest_line}
-use Rattle.audit_core.specs.declared.plan.Plan.{Plan}
+use Rattle.audit_core.specs.declared.plan.AuditPlan.{AuditPlan}
 use Rattle.audit_core.specs.declared.plan.Stage.{Stage}
 use Rattle.audit_core.specs.declared.plan.Stage.TheVariants.{Greeting, Beginning, Listing, Playing, Undoing, Reviewing, Trying, Relisting, Loading, Finishing, Over}
 use Rattle.audit_core.specs.Drawing.{is_siege}
@@ -68,7 +68,7 @@ AreRight s (mark ∷ marks) = IsRightAt (is_ended s.stage) s mark × AreRight (s
 -- An audit finds nothing exactly if each reply up to its end is right.
 abbrev pub AuditsFindFaults : Type 0
 AuditsFindFaults =
-    (plan : Plan) (marks : List Mark) →
+    (plan : AuditPlan) (marks : List Mark) →
     ((audit_of plan marks).findings ≡ 0) ↔ AreRight (start plan) marks
 
 -- A move that is tried was legal two plies before, and is not legal now. The text that is sent for
@@ -83,7 +83,7 @@ pub record TriesIllegal (s : AuditState) (m : Move) : Type 0 where
 -- This holds wherever an audit tries a move.
 abbrev pub TriedAreIllegal : Type 0
 TriedAreIllegal =
-    (plan : Plan) (marks : List Mark) (m : Move) → IsPlan plan
+    (plan : AuditPlan) (marks : List Mark) (m : Move) → IsPlan plan
     → (after_all (start plan) marks).stage ≡ Trying m
     → TriesIllegal (after_all (start plan) marks) m
 

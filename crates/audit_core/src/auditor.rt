@@ -17,7 +17,7 @@ mod replies;
 
 use crate::drawing::generator_of;
 use crate::findings::Fault;
-use crate::plan::{Plan, Stage};
+use crate::plan::{AuditPlan, Stage};
 use crate::texts::{begin_line, copy_text, is_ok, load_line, play_line, try_line, undo_line};
 use hive_model::{Game, GameType, LineText, ReplyText};
 use rand_xoshiro::SplitMix64;
@@ -34,9 +34,9 @@ const BASE: GameType = GameType {
 /// A new game of this type, with room for this number of plies.
 fn new_game<G: Game + Drop>(alloc: Global, game_type: GameType, plies: u32) -> Result<G, AllocError>
     requires { plies ≤ 1000 }
-    ensures kind { IfOk result (λ g. (G.course g).game_type ≡ game_type) }
-    ensures empty { IfOk result (λ g. (G.course g).made ≡ []) }
-    ensures room { IfOk result (λ g. plies ≤ (G.course g).spare) }
+    ensures kind { IfOk result (λ g. (G.history g).game_type ≡ game_type) }
+    ensures empty { IfOk result (λ g. (G.history g).made ≡ []) }
+    ensures room { IfOk result (λ g. plies ≤ (G.history g).spare) }
 {
     let mut game = G::opening(alloc, game_type)?;
     game.reserve(plies)?;
@@ -61,7 +61,7 @@ fn new_game<G: Game + Drop>(alloc: Global, game_type: GameType, plies: u32) -> R
 #[derive(Drop)]
 pub struct Auditor<G: Game> {
     alloc: Global,
-    plan: Plan,
+    plan: AuditPlan,
     stage: Stage,
     sending: bool,
     ended: u64,
@@ -84,10 +84,10 @@ impl<G: Game> Model for Auditor<G> {
     ghost Value = { AuditState };
 
     ghost view = { λ a. audit_state a.plan a.stage a.sending a.ended a.plays
-        (G.course a.game).game_type (G.course a.game).made (G.course a.whole).made a.generator
+        (G.history a.game).game_type (G.history a.game).made (G.history a.whole).made a.generator
         a.begun a.reply a.text a.findings a.positions a.choices };
 
-    ghost invariant = { λ a. IsAuditor a.plan a.stage (G.course a.game) (G.course a.whole)
+    ghost invariant = { λ a. IsAuditor a.plan a.stage (G.history a.game) (G.history a.whole)
         a.reply };
 }
 
@@ -97,7 +97,7 @@ impl<G: Game + Drop> Auditor<G> {
     /// # Errors
     ///
     /// Memory runs out.
-    pub fn new(alloc: Global, plan: Plan) -> Result<Auditor<G>, AllocError>
+    pub fn new(alloc: Global, plan: AuditPlan) -> Result<Auditor<G>, AllocError>
         requires { IsPlan plan }
         ensures { IfOk result (λ a. a ≡ start plan) }
     {

@@ -2,7 +2,7 @@
 ghost use Rattle.std.specs.Prelude.{◌≡◌, ◌≤◌, ◌-◌, length, not, take, IfOk, IfSome, OnOk};
 ghost use Rattle.std.specs.List.{filter};
 ghost use Rattle.hive_model.specs.declared.places.Move.{Move as AnyMove};
-ghost use Rattle.hive_model.specs.Courses.{position};
+ghost use Rattle.hive_model.specs.Histories.{position};
 ghost use Rattle.hive_model.specs.Lists.{IsOn};
 ghost use Rattle.hive_model.specs.Games.{replay};
 ghost use Rattle.hive_model.specs.Legal.{moves};
@@ -56,7 +56,7 @@ pub(crate) fn type_of(asked: Option<GameType>, plays: GameType, number: u64) -> 
 /// Whether a move is rare: the pass, a move of a mosquito, a throw of a piece of the other side, or
 /// a move onto a piece.
 fn is_rare<G: Game>(game: &G, m: Move) -> bool
-    ensures { result ≡ is_rare (position (G.course game.now)) m }
+    ensures { result ≡ is_rare (position (G.history game.now)) m }
 {
     match m {
         Move::Pass => true,
@@ -70,7 +70,7 @@ fn is_rare<G: Game>(game: &G, m: Move) -> bool
 
 /// Whether a game prefers a move: in a siege a sought move, and otherwise a rare one.
 fn is_wanted<G: Game>(game: &G, siege: bool, m: Move) -> bool
-    ensures { result ≡ is_wanted siege (position (G.course game.now)) m }
+    ensures { result ≡ is_wanted siege (position (G.history game.now)) m }
 {
     if siege {
         is_sought(game, m)
@@ -87,7 +87,7 @@ fn wanted_of<G: Game>(
     all: &[Move],
 ) -> Result<MoveList, AllocError>
     ensures { IfOk result (λ l. l
-        ≡ filter (is_wanted siege (position (G.course game.now))) all.now) }
+        ≡ filter (is_wanted siege (position (G.history game.now))) all.now) }
 {
     let mut wanted = MoveList::new(alloc);
     for m in all {
@@ -128,9 +128,9 @@ pub(crate) fn draw<G: Game>(
     legal: &[Move],
     generator: &mut SplitMix64,
 ) -> Result<Option<Move>, AllocError>
-    requires { legal.now ≡ moves (position (G.course game.now)) }
+    requires { legal.now ≡ moves (position (G.history game.now)) }
     ensures drawn { IfOk result (λ m. m
-        ≡ drawn_of siege generator.old (position (G.course game.now))) }
+        ≡ drawn_of siege generator.old (position (G.history game.now))) }
     ensures state { OnOk result (generator.new ≡ state_after generator.old) }
 {
     let wanted = wanted_of(alloc, game, siege, legal)?;
@@ -154,12 +154,12 @@ fn stale_of(alloc: Global, before: &[Move], now: &[Move]) -> Result<MoveList, Al
 
 /// The legal moves of the position two plies before. Their destinations are near.
 fn moves_before<G: Game + Drop>(alloc: Global, game: &G) -> Result<MoveList, AllocError>
-    ensures listed { let now = G.course game.now in IfOk result (λ l. l ≡ moves
+    ensures listed { let now = G.history game.now in IfOk result (λ l. l ≡ moves
         (replay (opening now.game_type) (take (length now.made - 2) now.made))) }
     ensures near { IfOk result (λ l. (m : AnyMove) → IsOn l m → IsMoveWithin m) }
 {
     let mut before = first_plies(alloc, game, game.plies().saturating_sub(2), 0)?;
-    before.is_sound();
+    before.lemma_sound();
     legal_moves(alloc, &mut before)
 }
 
@@ -171,8 +171,8 @@ pub(crate) fn draw_tried<G: Game + Drop>(
     legal: &[Move],
     generator: &mut SplitMix64,
 ) -> Result<Option<Move>, AllocError>
-    requires { legal.now ≡ moves (position (G.course game.now)) }
-    ensures drawn { let now = G.course game.now in IfOk result (λ m. m
+    requires { legal.now ≡ moves (position (G.history game.now)) }
+    ensures drawn { let now = G.history game.now in IfOk result (λ m. m
         ≡ tried_of generator.old
         (replay (opening now.game_type) (take (length now.made - 2) now.made))
         (position now)) }

@@ -19,4 +19,4 @@ pub use findings::{Fault, Finding};
 pub use laws::{
     audits_find_faults, games_stand_alone, replies_are_judged, tried_moves_are_illegal,
 };
-pub use plan::{Plan, Stage};
+pub use plan::{AuditPlan, Stage};

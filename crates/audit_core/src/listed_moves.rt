@@ -1,6 +1,6 @@
 //! What is wrong with a reply as the list of the legal moves.
 ghost use Rattle.std.specs.Prelude.{◌≡◌, ◌≤◌, length, IfOk};
-ghost use Rattle.hive_model.specs.Courses.{position};
+ghost use Rattle.hive_model.specs.Histories.{position};
 ghost use Rattle.hive_model.specs.Legal.{moves};
 ghost use Rattle.io_edge.specs.Lines.{greatest_line};
 ghost use Rattle.move_text.specs.Moves.{move_of};
@@ -17,10 +17,10 @@ use std::alloc::{AllocError, Global};
 /// The move that a part denotes on the game's board, or why it denotes none.
 fn read_part<G: Game>(game: &G, part: &[u8]) -> Result<Move, MoveFault>
     requires { length part.now ≤ greatest_line }
-    ensures { result ≡ move_of (G.course game.now).game_type
-        (position (G.course game.now)).board part.now }
+    ensures { result ≡ move_of (G.history game.now).game_type
+        (position (G.history game.now)).board part.now }
 {
-    game.is_sound();
+    game.lemma_sound();
     read_move(game.game_type(), game, part)
 }
 
@@ -41,7 +41,7 @@ fn judge_part<G: Game>(
     part: &[u8],
 ) -> Result<Judged, AllocError>
     requires { length part.now ≤ greatest_line }
-    ensures { let now = G.course game.now in IfOk result (λ j. j ≡ part_of legal.now listed.now
+    ensures { let now = G.history game.now in IfOk result (λ j. j ≡ part_of legal.now listed.now
         part.now (move_of now.game_type (position now).board part.now)) }
 {
     match read_part(game, part) {
@@ -67,9 +67,9 @@ fn first_missing<G: Game>(
     legal: &[Move],
     listed: &[Move],
 ) -> Result<Option<Finding>, AllocError>
-    requires { legal.now ≡ moves (position (G.course game.now)) }
+    requires { legal.now ≡ moves (position (G.history game.now)) }
     ensures { IfOk result (λ o. o
-        ≡ first_missing (position (G.course game.now)).board listed.now legal.now) }
+        ≡ first_missing (position (G.history game.now)).board listed.now legal.now) }
 {
     for m in legal {
         if !has_move(listed, m.again()) {
@@ -90,9 +90,9 @@ fn missing_in<G: Game>(
     legal: &[Move],
     listed: &MoveList,
 ) -> Result<Option<Finding>, AllocError>
-    requires { legal.now ≡ moves (position (G.course game.now)) }
+    requires { legal.now ≡ moves (position (G.history game.now)) }
     ensures { IfOk result (λ o. o
-        ≡ first_missing (position (G.course game.now)).board listed.now legal.now) }
+        ≡ first_missing (position (G.history game.now)).board listed.now legal.now) }
 {
     first_missing(alloc, game, legal, listed.items())
 }
@@ -104,9 +104,9 @@ pub(crate) fn wrong_list<G: Game>(
     legal: &[Move],
     line: &[u8],
 ) -> Result<Option<Finding>, AllocError>
-    requires legal { legal.now ≡ moves (position (G.course game.now)) }
+    requires legal { legal.now ≡ moves (position (G.history game.now)) }
     requires short { length line.now ≤ greatest_line }
-    ensures { let now = G.course game.now in
+    ensures { let now = G.history game.now in
         IfOk result (λ o. o ≡ wrong_list now.game_type (position now) line.now) }
 {
     let mut listed = MoveList::new(alloc);

@@ -1,7 +1,7 @@
 //! Lists of moves.
 ghost use Rattle.std.specs.Prelude.{◌≡◌, ◌<◌, IfOk, length};
 ghost use Rattle.hive_model.specs.Stack.{level_of};
-ghost use Rattle.hive_model.specs.Courses.{position, is_move};
+ghost use Rattle.hive_model.specs.Histories.{position, is_move};
 ghost use Rattle.hive_model.specs.Legal.{moves};
 ghost use Rattle.audit_core.specs.Judging.{has_move, same_moves};
 
@@ -60,8 +60,8 @@ fn level_moves(alloc: Global, stack: &MoveStack) -> Result<MoveList, AllocError>
 
 /// The legal moves of a game. The game does not change.
 pub(crate) fn legal_moves<G: Game>(alloc: Global, game: &mut G) -> Result<MoveList, AllocError>
-    ensures listed { IfOk result (λ l. l ≡ moves (position (G.course game.old))) }
-    ensures same { G.course game.new ≡ G.course game.old }
+    ensures listed { IfOk result (λ l. l ≡ moves (position (G.history game.old))) }
+    ensures same { G.history game.new ≡ G.history game.old }
 {
     let mut stack = MoveStack::new(alloc, 1)?;
     game.list(&mut stack);
@@ -70,7 +70,7 @@ pub(crate) fn legal_moves<G: Game>(alloc: Global, game: &mut G) -> Result<MoveLi
 
 /// The moves of a game, in order.
 pub(crate) fn moves_made<G: Game>(alloc: Global, game: &G) -> Result<MoveList, AllocError>
-    ensures { IfOk result (λ l. l ≡ (G.course game.now).made) }
+    ensures { IfOk result (λ l. l ≡ (G.history game.now).made) }
 {
     let mut made = MoveList::new(alloc);
     for i in 0..game.plies() {

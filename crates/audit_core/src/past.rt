@@ -1,6 +1,6 @@
 //! The first plies of a game.
 ghost use Rattle.std.specs.Prelude.{◌≡◌, ◌+◌, ◌≤◌, ℕ, length, take, IfOk};
-ghost use Rattle.hive_model.specs.Courses.{most_plies};
+ghost use Rattle.hive_model.specs.Histories.{most_plies};
 
 use hive_model::Game;
 use std::alloc::{AllocError, Global};
@@ -22,13 +22,13 @@ pub(crate) fn first_plies<G: Game + Drop>(
     plies: u32,
     room: u32,
 ) -> Result<G, AllocError>
-    requires made { plies ≤ length (G.course game.now).made }
+    requires made { plies ≤ length (G.history game.now).made }
     requires room { room ≤ most_plies }
-    ensures kind { IfOk result (λ g. (G.course g).game_type ≡ (G.course game.now).game_type) }
-    ensures made { IfOk result (λ g. (G.course g).made ≡ take plies (G.course game.now).made) }
-    ensures spare { IfOk result (λ g. room ≤ length (G.course g).made + (G.course g).spare) }
+    ensures kind { IfOk result (λ g. (G.history g).game_type ≡ (G.history game.now).game_type) }
+    ensures made { IfOk result (λ g. (G.history g).made ≡ take plies (G.history game.now).made) }
+    ensures spare { IfOk result (λ g. room ≤ length (G.history g).made + (G.history g).spare) }
 {
-    game.is_sound();
+    game.lemma_sound();
     let _all = game.plies();
     let reserved = most(plies, room);
     let mut past = G::opening(alloc, game.game_type())?;

@@ -3,7 +3,7 @@ use hive_model::{GameType, Move};
 
 /// The plan of an audit.
 #[derive(Clone, Copy, Debug, PartialEq, Eq)]
-pub struct Plan {
+pub struct AuditPlan {
     /// The number of games.
     pub games: u64,
     /// The number of the first game among all games of the seed, counted from 1. The game with some

@@ -1,7 +1,7 @@
 //! The games that are sieges, and the moves that are sought there.
 ghost use Rattle.std.specs.Prelude.{◌≡◌};
 ghost use Rattle.hive_model.specs.Boards.{spot_of};
-ghost use Rattle.hive_model.specs.Courses.{position};
+ghost use Rattle.hive_model.specs.Histories.{position};
 ghost use Rattle.hive_model.specs.Pieces.{queen_of};
 ghost use Rattle.hive_model.specs.Places.{IsWithin};
 ghost use Rattle.audit_core.specs.Drawing.{
@@ -46,7 +46,7 @@ fn is_beside_queen<B: Board>(board: &B, side: Colour, place: Place) -> bool
 /// Whether white closes in at a place: a black piece is on top there, or it is beside black's
 /// queen.
 fn closes_in<G: Game>(game: &G, place: Place) -> bool
-    ensures { result ≡ closes_in (position (G.course game.now)) place }
+    ensures { result ≡ closes_in (position (G.history game.now)) place }
 {
     match game.top(place) {
         Some(piece) => {
@@ -59,7 +59,7 @@ fn closes_in<G: Game>(game: &G, place: Place) -> bool
 /// Whether a move is sought in a siege. The pass is sought. A move of white is sought if it closes
 /// in, and a move of black if its piece is on the board.
 pub(crate) fn is_sought<G: Game>(game: &G, m: Move) -> bool
-    ensures { result ≡ is_sought (position (G.course game.now)) m }
+    ensures { result ≡ is_sought (position (G.history game.now)) m }
 {
     match m {
         Move::Pass => true,

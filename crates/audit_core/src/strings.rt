@@ -2,7 +2,7 @@
 ghost use Rattle.std.specs.Prelude.{◌≡◌, ◌≤◌, length, IfOk, Ok};
 ghost use Rattle.std.specs.Str.{bytes_eq};
 ghost use Rattle.hive_model.specs.Fields.{type_bytes};
-ghost use Rattle.hive_model.specs.Courses.{position};
+ghost use Rattle.hive_model.specs.Histories.{position};
 ghost use Rattle.io_edge.specs.Lines.{greatest_line};
 ghost use Rattle.game_text.specs.Reading.{game_of};
 ghost use Rattle.audit_core.specs.Judging.{same_type, is_game, wrong_string};
@@ -39,7 +39,7 @@ fn is_read(parsed: &Parsed, game_type: GameType, made: &[Move]) -> bool
 /// Whether a line is a written form of the game.
 fn is_game<G: Game + Drop>(alloc: Global, game: &G, line: &[u8]) -> Result<bool, AllocError>
     requires { length line.now ≤ greatest_line }
-    ensures { let now = G.course game.now in
+    ensures { let now = G.history game.now in
         IfOk result (λ b. b ≡ is_game now.game_type now.made (game_of line.now)) }
 {
     match read_game::<G>(alloc, line) {
@@ -59,7 +59,7 @@ pub(crate) fn wrong_string<G: Game + Drop>(
     line: &[u8],
 ) -> Result<Option<Finding>, AllocError>
     requires { length line.now ≤ greatest_line }
-    ensures { let now = G.course game.now in
+    ensures { let now = G.history game.now in
         IfOk result (λ o. o ≡ wrong_string now.game_type now.made line.now) }
 {
     if is_game(alloc, game, line)? && !is_type(line, game.game_type()) {

@@ -12,7 +12,7 @@ ghost use Rattle.std.specs.Prelude.{
   IfOk,
   OnOk,
 };
-ghost use Rattle.hive_model.specs.Courses.{position};
+ghost use Rattle.hive_model.specs.Histories.{position};
 ghost use Rattle.hive_model.specs.Lists.{IsOn};
 ghost use Rattle.hive_model.specs.Legal.{moves};
 ghost use Rattle.hive_model.specs.Denotes.{text};
@@ -77,18 +77,18 @@ pub(crate) fn text_with(
 /// The text of a move with a near destination.
 pub(crate) fn near_text<G: Game>(alloc: Global, game: &G, m: Move) -> Result<LineText, AllocError>
     requires { IsMoveWithin m }
-    ensures { IfOk result (λ t. t ≡ text (position (G.course game.now)).board m) }
+    ensures { IfOk result (λ t. t ≡ text (position (G.history game.now)).board m) }
 {
-    game.is_sound();
+    game.lemma_sound();
     copy_text(alloc, write_move(game, m).as_bytes())
 }
 
 /// The text of a legal move.
 pub(crate) fn move_text<G: Game>(alloc: Global, game: &G, m: Move) -> Result<LineText, AllocError>
-    requires { IsOn (moves (position (G.course game.now))) m }
-    ensures { IfOk result (λ t. t ≡ text (position (G.course game.now)).board m) }
+    requires { IsOn (moves (position (G.history game.now))) m }
+    ensures { IfOk result (λ t. t ≡ text (position (G.history game.now)).board m) }
 {
-    game.is_sound();
+    game.lemma_sound();
     near_text(alloc, game, m)
 }
 
@@ -124,8 +124,8 @@ fn line_of(alloc: Global, text: &[u8]) -> Result<ReplyText, AllocError>
 
 /// The line that plays a legal move.
 pub(crate) fn play_line<G: Game>(alloc: Global, game: &G, m: Move) -> Result<ReplyText, AllocError>
-    requires { IsOn (moves (position (G.course game.now))) m }
-    ensures { IfOk result (λ t. t ≡ play_line (position (G.course game.now)) m) }
+    requires { IsOn (moves (position (G.history game.now))) m }
+    ensures { IfOk result (λ t. t ≡ play_line (position (G.history game.now)) m) }
 {
     match m {
         Move::Pass => copy_text(alloc, b"pass\n"),
@@ -139,7 +139,7 @@ pub(crate) fn play_line<G: Game>(alloc: Global, game: &G, m: Move) -> Result<Rep
 /// The line that plays a move with a near destination.
 pub(crate) fn try_line<G: Game>(alloc: Global, game: &G, m: Move) -> Result<ReplyText, AllocError>
     requires { IsMoveWithin m }
-    ensures { IfOk result (λ t. t ≡ play_line (position (G.course game.now)) m) }
+    ensures { IfOk result (λ t. t ≡ play_line (position (G.history game.now)) m) }
 {
     match m {
         Move::Pass => copy_text(alloc, b"pass\n"),
@@ -152,7 +152,7 @@ pub(crate) fn try_line<G: Game>(alloc: Global, game: &G, m: Move) -> Result<Repl
 
 /// The line that loads a game by its game string.
 pub(crate) fn load_line<G: Game + Drop>(alloc: Global, game: &G) -> Result<ReplyText, AllocError>
-    ensures { let now = G.course game.now in
+    ensures { let now = G.history game.now in
         IfOk result (λ t. t ≡ load_line now.game_type now.made) }
 {
     let mut line = ReplyText::new(alloc);
@@ -311,7 +311,7 @@ pub(crate) fn write_finding<G: Game + Drop>(
     game: &G,
     finding: &Finding,
 ) -> Result<(), AllocError>
-    ensures { let now = G.course game.now in OnOk result (out.new
+    ensures { let now = G.history game.now in OnOk result (out.new
         ≡ out.old ++ finding_line number now.game_type now.made finding.now) }
 {
     write_numbered(out, b"game ", number)?;

@@ -2,7 +2,7 @@
 //! a play.
 
 ghost use Rattle.std.specs.Prelude.{◌≡◌, ◌≤ℤ◌, IfSome, IsTrue, neg_ℤ};
-ghost use Rattle.hive_model.specs.Courses.{position};
+ghost use Rattle.hive_model.specs.Histories.{position};
 ghost use Rattle.hive_model.specs.Games.{after};
 ghost use Rattle.hive_model.specs.Legal.{moves};
 ghost use Rattle.hive_model.specs.Lists.{IsOn};
@@ -33,9 +33,9 @@ impl<B: GameBoard> BoardGame<B> {
     /// is known without a play. For a placement the exact worth is tried first, which is computed
     /// once for each place.
     fn told_least(&mut self, m: Move) -> Option<i32>
-        requires { IsOn (moves (position self.old.course)) m }
-        ensures least { IfSome result (λ b. b ≤ℤ value (after (position self.old.course) m) 0) }
-        ensures same { self.new.course ≡ self.old.course }
+        requires { IsOn (moves (position self.old.history)) m }
+        ensures least { IfSome result (λ b. b ≤ℤ value (after (position self.old.history) m) 0) }
+        ensures same { self.new.history ≡ self.old.history }
         ensures count { self.new.count ≡ self.old.count }
     {
         if is_plain_placement(self, &m) {
@@ -49,9 +49,9 @@ impl<B: GameBoard> BoardGame<B> {
     /// Whether a legal move is known without a play to be worth no more than alpha to the side that
     /// makes it.
     pub(crate) fn is_told_futile(&mut self, m: Move, alpha: i32) -> bool
-        requires { IsOn (moves (position self.old.course)) m }
-        ensures futile { IsTrue result → reply_value (position self.old.course) 0 m ≤ℤ alpha }
-        ensures same { self.new.course ≡ self.old.course }
+        requires { IsOn (moves (position self.old.history)) m }
+        ensures futile { IsTrue result → reply_value (position self.old.history) 0 m ≤ℤ alpha }
+        ensures same { self.new.history ≡ self.old.history }
         ensures count { self.new.count ≡ self.old.count }
     {
         match self.told_least(m) {

@@ -1,7 +1,7 @@
 //! The game on a board.
 
 ghost use Rattle.std.specs.Prelude.{◌≡◌, ◌≤ℤ◌, IsTrue, refl};
-ghost use Rattle.hive_model.specs.Courses.{position};
+ghost use Rattle.hive_model.specs.Histories.{position};
 ghost use Rattle.hive_model.specs.Legal.{moves};
 ghost use Rattle.hive_model.specs.Lists.{IsOn};
 ghost use Rattle.hive_model.specs.Minimax.{reply_value};
@@ -51,19 +51,19 @@ pub struct BoardGame<B: GameBoard> {
 impl<B: GameBoard> Model for BoardGame<B> {
     ghost use Rattle.std.specs.Prelude.{◌≡◌, ◌≤◌, ◌+◌, vec_capacity, vec_len};
     ghost use Rattle.hive_model.specs.Positions.{opening};
-    ghost use Rattle.board_game.specs.Replayed.{PlayedCourse, IsReplayed};
+    ghost use Rattle.board_game.specs.Replayed.{PlayedHistory, IsReplayed};
     ghost use Rattle.cut_keeper.specs.Keeping.{Keeps};
     ghost use Rattle.board_game.specs.Kept.{AreKept};
     ghost use Rattle.board_game.specs.Asked.{IsKnown};
     ghost use Rattle.board_game.specs.InHand.{ArePlaced};
     ghost use Rattle.hive_model.specs.Pieces.{other_side};
     ghost use Rattle.rule_laws.specs.Soundness.{side_after};
-    ghost use Rattle.hive_model.specs.Courses.{most_plies};
+    ghost use Rattle.hive_model.specs.Histories.{most_plies};
 
-    ghost Value = { PlayedCourse };
+    ghost Value = { PlayedHistory };
 
     ghost view = { λ g. record {
-      course = record { game_type = g.game_type; made = g.made.items; spare = g.spare };
+      history = record { game_type = g.game_type; made = g.made.items; spare = g.spare };
       count = g.count;
     } };
 
@@ -82,9 +82,9 @@ impl<B: GameBoard> Model for BoardGame<B> {
 }
 
 impl<B: GameBoard> Board for BoardGame<B> {
-    ghost use Rattle.hive_model.specs.Courses.{position};
+    ghost use Rattle.hive_model.specs.Histories.{position};
 
-    ghost stacks = { λ g. (position g.course).board };
+    ghost stacks = { λ g. (position g.history).board };
 
     fn top(&self, place: Place) -> Option<Piece> {
         self.board.top(place)
@@ -98,8 +98,8 @@ impl<B: GameBoard> Board for BoardGame<B> {
         self.board.spot(piece)
     }
 
-    fn is_board(&self) {
-        self.board.is_board();
+    fn lemma_board(&self) {
+        self.board.lemma_board();
     }
 
     fn under(&self, piece: Piece) -> Option<Piece> {
@@ -115,9 +115,9 @@ impl<B: GameBoard> BoardGame<B> {
     /// Whether a legal move is known, by the reach of its piece, to be worth no more than alpha to
     /// the side that makes it. No ply is left after it.
     fn is_out_of_reach(&mut self, m: &Move, alpha: i32) -> bool
-        requires { IsOn (moves (position self.old.course)) m.now }
-        ensures futile { IsTrue result → reply_value (position self.old.course) 0 m.now ≤ℤ alpha }
-        ensures same { self.new.course ≡ self.old.course }
+        requires { IsOn (moves (position self.old.history)) m.now }
+        ensures futile { IsTrue result → reply_value (position self.old.history) 0 m.now ≤ℤ alpha }
+        ensures same { self.new.history ≡ self.old.history }
         ensures count { self.new.count ≡ self.old.count }
     {
         let Move::To { piece, place } = m else {
@@ -132,9 +132,9 @@ impl<B: GameBoard> BoardGame<B> {
     /// ply is left after it. The reach of its piece is tried first, then what is known of the move
     /// without a play.
     fn is_futile(&mut self, m: Move, alpha: i32) -> bool
-        requires { IsOn (moves (position self.old.course)) m }
-        ensures futile { IsTrue result → reply_value (position self.old.course) 0 m ≤ℤ alpha }
-        ensures same { self.new.course ≡ self.old.course }
+        requires { IsOn (moves (position self.old.history)) m }
+        ensures futile { IsTrue result → reply_value (position self.old.history) 0 m ≤ℤ alpha }
+        ensures same { self.new.history ≡ self.old.history }
         ensures count { self.new.count ≡ self.old.count }
     {
         if self.is_out_of_reach(&m, alpha) {
@@ -145,7 +145,7 @@ impl<B: GameBoard> BoardGame<B> {
 }
 
 impl<B: GameBoard> Game for BoardGame<B> {
-    ghost course = { λ g. g.course };
+    ghost history = { λ g. g.history };
 
     ghost played = { λ g. g.count };
 
@@ -191,7 +191,7 @@ impl<B: GameBoard> Game for BoardGame<B> {
         state_of(&self.board, self.game_type, &self.made)
     }
 
-    fn is_sound(&self) {
+    fn lemma_sound(&self) {
         let _game_type = self.game_type;
     }
 

@@ -18,15 +18,15 @@ use crate::reach::{Placing, Reach, placing_by, reach_by};
 use crate::told_values::{find_base, find_whole, least_by, value_by};
 use cut_keeper::CutKeeper;
 use hive_model::{Board, Colour, Piece, Place};
-use leaf_worth::Base;
+use leaf_worth::BoardWithout;
 
 /// What was found for the side to move after the next move. It holds what is known of the whole
 /// board, and of the board without the piece that was asked for last. It also holds the reach of
 /// the piece that was last asked for its bounds, and the bound of all placements.
 #[derive(Drop)]
 pub struct Lookahead {
-    pub whole: Option<Base>,
-    pub asked: Option<(Piece, Base)>,
+    pub whole: Option<BoardWithout>,
+    pub asked: Option<(Piece, BoardWithout)>,
     pub reach: Option<Reach>,
     pub placing: Option<Placing>,
 }

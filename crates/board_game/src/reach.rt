@@ -17,7 +17,7 @@ ghost use Rattle.board_game.specs.Replayed.{CanBeTaken};
 
 use hive_model::{Board, Colour, Lifted, Piece, Place};
 use leaf_bounds::{is_afar, most_afar, most_of_piece, most_of_placements};
-use leaf_worth::Base;
+use leaf_worth::BoardWithout;
 
 /// Upper bounds of what a move of the piece is worth to the side that makes it. One holds wherever
 /// the piece goes. The other holds if it adds no neighbour to the other's queen. A number is
@@ -50,7 +50,7 @@ pub struct Placing {
 
 /// The reach of the piece, by what was found about the board without it. No queen is surrounded on
 /// that board.
-fn reach_without<B: Board>(board: &B, base: &Base, piece: Piece, side: Colour) -> Reach
+fn reach_without<B: Board>(board: &B, base: &BoardWithout, piece: Piece, side: Colour) -> Reach
     requires found { IsFound (B.stacks board.now) side base.now }
     requires absent { IsNone (spot_of (B.stacks board.now) piece) }
     requires white { is_surrounded (B.stacks board.now) White ≡ false }
@@ -66,7 +66,7 @@ fn reach_without<B: Board>(board: &B, base: &Base, piece: Piece, side: Colour) -
 
 /// The reach of the piece, which is in hand or on top, by what was found about the board without
 /// it.
-pub fn reach_by<B: Board>(board: &B, base: &Base, piece: Piece, side: Colour) -> Reach
+pub fn reach_by<B: Board>(board: &B, base: &BoardWithout, piece: Piece, side: Colour) -> Reach
     requires found { IsFound (without (B.stacks board.now) piece) side base.now }
     requires loose { CanBeTaken (B.stacks board.now) piece }
     requires white { is_surrounded (B.stacks board.now) White ≡ false }
@@ -81,7 +81,7 @@ pub fn reach_by<B: Board>(board: &B, base: &Base, piece: Piece, side: Colour) ->
 }
 
 /// An upper bound of what any placement is worth, by what was found about the whole board.
-pub fn placing_by<B: Board>(board: &B, whole: &Base, side: Colour) -> Placing
+pub fn placing_by<B: Board>(board: &B, whole: &BoardWithout, side: Colour) -> Placing
     requires found { IsFound (B.stacks board.now) side whole.now }
     requires white { is_surrounded (B.stacks board.now) White ≡ false }
     requires black { is_surrounded (B.stacks board.now) Black ≡ false }

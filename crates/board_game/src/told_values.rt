@@ -19,18 +19,23 @@ ghost use Rattle.board_game.specs.Replayed.{CanBeTaken};
 
 use cut_keeper::{CutKeeper, removed_uncounted};
 use hive_model::{Board, Colour, Lifted, Piece, Place};
-use leaf_worth::Base;
+use leaf_worth::BoardWithout;
 
 /// Finds what is known of the whole board, unless it was found before. The board is one hive, and
 /// the keeper stands for it.
-pub fn find_whole<B: Board>(board: &B, keeper: &CutKeeper, known: &mut Option<Base>, side: Colour)
+pub fn find_whole<B: Board>(
+    board: &B,
+    keeper: &CutKeeper,
+    known: &mut Option<BoardWithout>,
+    side: Colour,
+)
     requires keeps { Keeps (B.stacks board.now) keeper.now }
     requires one_hive { OneHive (B.stacks board.now) }
     requires known { IsWhole (B.stacks board.now) side known.old }
     ensures { IsSomeAnd known.new (IsFound (B.stacks board.now) side) }
 {
     if known.is_none() {
-        *known = Some(Base::of_hive(board, keeper.again(), side));
+        *known = Some(BoardWithout::of_hive(board, keeper.again(), side));
     }
 }
 
@@ -40,10 +45,10 @@ pub fn find_whole<B: Board>(board: &B, keeper: &CutKeeper, known: &mut Option<Ba
 fn base_without<B: Board>(
     board: &B,
     keeper: &CutKeeper,
-    whole: &Base,
+    whole: &BoardWithout,
     piece: Piece,
     side: Colour,
-) -> Base
+) -> BoardWithout
     requires loose { CanBeTaken (B.stacks board.now) piece }
     requires one_hive { OneHive (B.stacks board.now) }
     requires left { OneHive (without (B.stacks board.now) piece) }
@@ -56,7 +61,7 @@ fn base_without<B: Board>(
             let mut known = keeper.again();
             let left = Lifted::new(board, piece);
             removed_uncounted(&mut known, &left, piece, spot.place);
-            Base::of_hive(&left, known, side)
+            BoardWithout::of_hive(&left, known, side)
         }
         None => whole.again(),
     }
@@ -67,7 +72,7 @@ fn base_without<B: Board>(
 /// its place.
 pub fn value_by<B: Board>(
     board: &B,
-    base: &Base,
+    base: &BoardWithout,
     piece: Piece,
     place: Place,
     side: Colour,
@@ -90,7 +95,7 @@ pub fn value_by<B: Board>(
 /// bound if there is one.
 pub fn least_by<B: Board>(
     board: &B,
-    base: &Base,
+    base: &BoardWithout,
     piece: Piece,
     place: Place,
     side: Colour,
@@ -110,7 +115,7 @@ pub fn least_by<B: Board>(
 }
 
 /// Whether this piece was asked for last.
-fn is_asked(asked: &Option<(Piece, Base)>, piece: Piece) -> bool
+fn is_asked(asked: &Option<(Piece, BoardWithout)>, piece: Piece) -> bool
     ensures { IsTrue result → IsSomeAnd asked.now (λ a. a.0 ≡ piece) }
 {
     match asked {
@@ -125,8 +130,8 @@ fn is_asked(asked: &Option<(Piece, Base)>, piece: Piece) -> bool
 pub fn find_base<B: Board>(
     board: &B,
     keeper: &CutKeeper,
-    whole: &Base,
-    asked: &mut Option<(Piece, Base)>,
+    whole: &BoardWithout,
+    asked: &mut Option<(Piece, BoardWithout)>,
     piece: Piece,
     side: Colour,
 )

@@ -2,7 +2,7 @@
 use Rattle.std.proofs.Common.{◌≡◌, ◌<◌, ◌≤◌, ℕ, ◌+◌, List, [], ◌∷◌, ◌++◌, length, refl, ap, sym, ◌∙◌, subst, inr, Some, arith, append_assoc, length-append}
 use Rattle.std.proofs.lemmas.List.{append-nil, map-append}
 use Rattle.io_edge.specs.Outside.{Told}
-use Rattle.hive_model.specs.Courses.{Course}
+use Rattle.hive_model.specs.Histories.{History}
 use Rattle.io_edge.specs.Lines.{Line}
 use Rattle.hive_model.specs.Positions.{Position}
 use Rattle.line_feed.specs.Feed.{Reading, Ends, Holds, input_limit}
@@ -50,18 +50,18 @@ more_games ls games line game are is =
     ∙ ((λ i. are i ++ is i ∷ []) ∙ sym (map-append (λ g. Some g) games (game ∷ [])))
 
 -- one game more
-pub one_counted : {start now new : Reading} {from to rest : Told} {first last next : Counts} {number : ℕ} {bytes : List ℕ} {line : Line} (course : Course)
-    → Counting start now from to first last number → WereTaken bytes now new to rest → GivesPlayed course bytes now new rest line
-    → ((p : Position) (games : List BookGame) → IsTally p games last → IsTally p (games ++ played_by course ∷ []) next) → next.plies ≡ last.plies + length course.made
+pub one_counted : {start now new : Reading} {from to rest : Told} {first last next : Counts} {number : ℕ} {bytes : List ℕ} {line : Line} (history : History)
+    → Counting start now from to first last number → WereTaken bytes now new to rest → GivesPlayed history bytes now new rest line
+    → ((p : Position) (games : List BookGame) → IsTally p games last → IsTally p (games ++ played_by history ∷ []) next) → next.plies ≡ last.plies + length history.made
     → Counting start new from rest first next (number + 1)
-one_counted {start} {now} {new} {from} {to} {rest} {first} {last} {next} {number} {bytes} {line} course c taken is added plies = record {
+one_counted {start} {now} {new} {from} {to} {rest} {first} {last} {next} {number} {bytes} {line} history c taken is added plies = record {
   ls = c.ls ++ line ∷ [];
-  games = c.games ++ played_by course ∷ [];
+  games = c.games ++ played_by history ∷ [];
   fed = λ begin before given f.
       let (more, g) = c.fed begin before given f in
       (more ++ bytes, subst (λ ls. Fed begin rest new (more ++ bytes) ls) (append_assoc given c.ls (line ∷ [])) (fed_line g taken.takes is.gives));
-  are_games = more_games c.ls c.games line (played_by course) c.are_games is.game;
-  tally = λ p before t. subst (λ games. IsTally p games next) (append_assoc before c.games (played_by course ∷ [])) (added p (before ++ c.games) (c.tally p before t));
+  are_games = more_games c.ls c.games line (played_by history) c.are_games is.game;
+  tally = λ p before t. subst (λ games. IsTally p games next) (append_assoc before c.games (played_by history ∷ [])) (added p (before ++ c.games) (c.tally p before t));
   numbered = let n = c.numbered in let l = length-append c.ls (line ∷ []) in omega (arith, n, l);
   counted = let k = c.counted in let long = is.long in omega (arith, k, long, plies);
 }

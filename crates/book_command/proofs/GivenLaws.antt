@@ -1,7 +1,7 @@
 -- A further line of the input, and the game that it is.
 use Rattle.std.proofs.Common.{◌≡◌, ◌<◌, ℕ, ◌+◌, List, length, refl, subst, Option, Some, None, arith}
 use Rattle.io_edge.specs.Outside.{Told}
-use Rattle.hive_model.specs.Courses.{Course}
+use Rattle.hive_model.specs.Histories.{History}
 use Rattle.io_edge.specs.Lines.{Line, Text, TooLong as LongLine}
 use Rattle.line_feed.specs.Feed.{Reading, Gives}
 use Rattle.game_text.specs.Reading.{game_of}
@@ -23,14 +23,14 @@ says_none Memory number game none any = tt
 -- The line that was given
 
 -- the text is that of the line, and is a game
-pub game_given : (course : Course) (text last : List ℕ) → text ≡ last → {old new : Reading} {bytes : List ℕ} {rest : Told} → Gives old bytes (Text last) new rest → as_played (game_of text) ≡ Some (played_by course)
-    → (line : Line) × GivesPlayed course bytes old new rest line
+pub game_given : (history : History) (text last : List ℕ) → text ≡ last → {old new : Reading} {bytes : List ℕ} {rest : Told} → Gives old bytes (Text last) new rest → as_played (game_of text) ≡ Some (played_by history)
+    → (line : Line) × GivesPlayed history bytes old new rest line
 unfolding played_in
-game_given course text last is {old} {new} {bytes} {rest} gives plays =
-    let game : as_played (game_of last) ≡ Some (played_by course) = subst (λ t. as_played (game_of t) ≡ Some (played_by course)) is plays in
-    let long = played_long last (game_of last) (played_by course) refl game in
+game_given history text last is {old} {new} {bytes} {rest} gives plays =
+    let game : as_played (game_of last) ≡ Some (played_by history) = subst (λ t. as_played (game_of t) ≡ Some (played_by history)) is plays in
+    let long = played_long last (game_of last) (played_by history) refl game in
     let passed = passes_text last gives in
-    let more : old.passed + length course.made < new.passed = omega (arith, long, passed) in
+    let more : old.passed + length history.made < new.passed = omega (arith, long, passed) in
     (Text last, record { gives = gives; game = game; long = more })
 
 lacks_given : (e : NoGame) (number : ℕ) (line : Line) {old new : Reading} {bytes : List ℕ} {rest : Told} → Gives old bytes line new rest → LacksGame e number (played_in line) → GivesNone e number bytes old new rest

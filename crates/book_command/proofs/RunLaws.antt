@@ -4,7 +4,7 @@ use Rattle.std.specs.Prelude.{Option, Ok, Err}
 use Rattle.std.proofs.lemmas.List.{append-nil}
 use Rattle.io_edge.specs.Outside.{Told, behind}
 use Rattle.hive_model.specs.declared.places.Move.{Move}
-use Rattle.hive_model.specs.Courses.{Course, position}
+use Rattle.hive_model.specs.Histories.{History, position}
 use Rattle.hive_model.specs.Legal.{moves}
 use Rattle.io_edge.specs.Lines.{Line, lines}
 use Rattle.hive_model.specs.Positions.{Position}
@@ -33,13 +33,13 @@ told_legal p games None book = tt
 told_legal p games (Some b) book = on-at (moves p) book.place b.0 book.move
 
 -- the input was read to its end, and this is the line
-pub is_answer : (input : List ℕ) (rest : Told) (start : Parsed) (games : List BookGame) (course : Course) (line : List ℕ) → IsReplayOf course start → IsWhole input rest start games → IsLineOf (position course) games line → IsAnswer input rest line
-is_answer input rest start games course line replay_of whole is = record {
+pub is_answer : (input : List ℕ) (rest : Told) (start : Parsed) (games : List BookGame) (history : History) (line : List ℕ) → IsReplayOf history start → IsWhole input rest start games → IsLineOf (position history) games line → IsAnswer input rest line
+is_answer input rest start games history line replay_of whole is = record {
   start = start;
   games = games;
   asks = whole.asks;
   over = whole.over;
-  answers = subst (λ p. IsLineOf p games line) (end_is course start replay_of) is;
+  answers = subst (λ p. IsLineOf p games line) (end_is history start replay_of) is;
 }
 
 asked_good : (ls : List Line) (start : Parsed) (games : List BookGame) → Asks ls start games → AreGood ls

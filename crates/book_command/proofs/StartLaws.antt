@@ -2,7 +2,7 @@
 use Rattle.std.proofs.Common.{◌≡◌, ◌<◌, ℕ, Bool, true, false, List, [], ◌∷◌, refl, ap, sym, ◌∙◌, subst, inl, inr, codes, Some, arith}
 use Rattle.std.specs.Prelude.{Result, Ok, Err}
 use Rattle.io_edge.specs.Outside.{Told}
-use Rattle.hive_model.specs.Courses.{Course, position}
+use Rattle.hive_model.specs.Histories.{History, position}
 use Rattle.hive_model.specs.Legal.{is_over}
 use Rattle.io_edge.specs.Lines.{Line, Text, TooLong as LongLine}
 use Rattle.line_feed.specs.Feed.{Reading, Gives, Holds, input_limit, fresh}
@@ -43,8 +43,8 @@ goes_on (Text bytes) start h = read_goes_on (game_of bytes) start h
 goes_on LongLine start h = absurd (cc)
 
 -- the game under way is not over
-pub not_over : (course : Course) {bytes : List ℕ} {old new : Reading} {rest : Told} → GivesGame course bytes old new rest → is_over (position course) ≡ false
-not_over course (line, gives, (game, plays, replay_of)) = ap is_over (end_is course game replay_of) ∙ goes_on line game plays
+pub not_over : (history : History) {bytes : List ℕ} {old new : Reading} {rest : Told} → GivesGame history bytes old new rest → is_over (position history) ≡ false
+not_over history (line, gives, (game, plays, replay_of)) = ap is_over (end_is history game replay_of) ∙ goes_on line game plays
 
 -- The input
 
@@ -53,8 +53,8 @@ fed_first : {r0 r1 : Told} {old new : Reading} {bytes : List ℕ} {line : Line} 
 fed_first {r0} {r1} {old} is taken gives = fed_line (fed_begin r0 old is) taken.takes gives
 
 -- it is a game that is not over
-pub begun : {r0 r1 : Told} {old new : Reading} {bytes : List ℕ} {course : Course} → old ≡ fresh → WereTaken bytes old new r0 r1 → GivesGame course bytes old new r1
-    → WhereTold r0 (λ input. (start : Parsed) × HasBegun input start new r1 × IsReplayOf course start)
+pub begun : {r0 r1 : Told} {old new : Reading} {bytes : List ℕ} {history : History} → old ≡ fresh → WereTaken bytes old new r0 r1 → GivesGame history bytes old new r1
+    → WhereTold r0 (λ input. (start : Parsed) × HasBegun input start new r1 × IsReplayOf history start)
 begun {r0} {r1} {old} {new} {bytes} is taken (line, gives, (game, plays, replay_of)) = λ input told. (
   game,
   record {

@@ -1,7 +1,7 @@
 -- How the lines of an input are read, one game at a time.
 use Rattle.std.specs.Prelude.{◌≡◌, ℕ, ◌+◌, ◌<◌, ◌≤◌, List, [], ◌∷◌, ◌++◌, length, Option, Some, None, Ok}
 use Rattle.io_edge.specs.Outside.{Told}
-use Rattle.hive_model.specs.Courses.{Course}
+use Rattle.hive_model.specs.Histories.{History}
 use Rattle.io_edge.specs.Lines.{Line, lines}
 use Rattle.hive_model.specs.Positions.{Position}
 use Rattle.line_feed.specs.Feed.{Reading, Gives, Holds, HoldsLittle, input_limit}
@@ -17,16 +17,16 @@ use Rattle.book_command.specs.Text.{refusal}
 
 -- A further line
 
--- the game played to reach this course
-abbrev pub played_by : Course → BookGame
-played_by course = record { game_type = course.game_type; made = course.made }
+-- the game played to reach this history
+abbrev pub played_by : History → BookGame
+played_by history = record { game_type = history.game_type; made = history.made }
 
--- The line that was given is a game, and this course is at its end. Each of its plies took a byte.
-pub record GivesPlayed (course : Course) (bytes : List ℕ) (old new : Reading) (rest : Told)
+-- The line that was given is a game, and this history is at its end. Each of its plies took a byte.
+pub record GivesPlayed (history : History) (bytes : List ℕ) (old new : Reading) (rest : Told)
     (line : Line) : Type 0 where
   pub gives : Gives old bytes line new rest
-  pub game : played_in line ≡ Some (played_by course)
-  pub long : old.passed + length course.made < new.passed
+  pub game : played_in line ≡ Some (played_by history)
+  pub long : old.passed + length history.made < new.passed
 
 -- the text of the line with this number is no game, and the line that refuses it is to be written;
 -- or memory ran out

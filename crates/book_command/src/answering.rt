@@ -2,7 +2,7 @@
 
 ghost use Rattle.std.specs.Prelude.{◌≡◌, [], false, Err, IfOk, IfErr};
 ghost use Rattle.io_edge.specs.Outside.{HasCause};
-ghost use Rattle.hive_model.specs.Courses.{position};
+ghost use Rattle.hive_model.specs.Histories.{position};
 ghost use Rattle.hive_model.specs.Legal.{is_over};
 ghost use Rattle.opening_book.specs.Book.{IsTally};
 ghost use Rattle.command_runs.specs.Input.{WhereTold};
@@ -16,17 +16,17 @@ use command_runs::{NoGame, Status, first_game, tell_none};
 use hive_model::{Game, MoveStack, ReplyText};
 use io_edge::{Sink, Source, write_all};
 use line_feed::LineReader;
-use opening_book::Tally;
+use opening_book::MoveTally;
 use std::alloc::{AllocError, Global};
 
 /// The counts for the game's position over no games.
-fn tally_of<G: Game>(alloc: Global, game: &mut G) -> Result<Tally, AllocError>
-    requires { is_over (position (G.course game.old)) ≡ false }
-    ensures tally { IfOk result (λ t. IsTally (position (G.course game.old)) [] t) }
-    ensures game { G.course game.new ≡ G.course game.old }
+fn tally_of<G: Game>(alloc: Global, game: &mut G) -> Result<MoveTally, AllocError>
+    requires { is_over (position (G.history game.old)) ≡ false }
+    ensures tally { IfOk result (λ t. IsTally (position (G.history game.old)) [] t) }
+    ensures game { G.history game.new ≡ G.history game.old }
 {
     let mut stack = MoveStack::new(alloc, 1)?;
-    Tally::of(alloc, game, &mut stack)
+    MoveTally::of(alloc, game, &mut stack)
 }
 
 /// The line of the book for which the input asks.

@@ -1,7 +1,7 @@
 //! The line that a book writes.
 
 ghost use Rattle.std.specs.Prelude.{◌≡◌, ◌++◌, ◌∷◌, List, decimal, IfOk};
-ghost use Rattle.hive_model.specs.Courses.{position};
+ghost use Rattle.hive_model.specs.Histories.{position};
 ghost use Rattle.hive_model.specs.Denotes.{text as text_of};
 ghost use Rattle.hive_model.specs.Legal.{moves};
 ghost use Rattle.hive_model.specs.Lists.{IsOn};
@@ -12,7 +12,7 @@ use command_runs::line_for;
 use hive_model::{Game, Move, ReplyText};
 use itoa::Buffer;
 use move_text::write_move;
-use opening_book::Tally;
+use opening_book::MoveTally;
 use std::alloc::{AllocError, Global};
 
 /// A legal move as written on the board of the position, a space, and how often it was made.
@@ -22,11 +22,11 @@ fn move_field<G: Game>(
     best: Move,
     count: u64,
 ) -> Result<ReplyText, AllocError>
-    requires { IsOn (moves (position (G.course game.now))) best }
+    requires { IsOn (moves (position (G.history game.now))) best }
     ensures { IfOk result (λ t.
-        t ≡ text_of (position (G.course game.now)).board best ++ (32 ∷ decimal count)) }
+        t ≡ text_of (position (G.history game.now)).board best ++ (32 ∷ decimal count)) }
 {
-    game.is_sound();
+    game.lemma_sound();
     let written = write_move(game, best);
     let mut buffer = Buffer::new();
     let mut text = ReplyText::new(alloc);
@@ -42,8 +42,8 @@ fn line_of<G: Game>(
     game: &G,
     found: Option<(Move, u64)>,
 ) -> Result<ReplyText, AllocError>
-    requires { IsLegalHere (position (G.course game.now)) found }
-    ensures { IfOk result (λ t. t ≡ book_line (position (G.course game.now)).board found) }
+    requires { IsLegalHere (position (G.history game.now)) found }
+    ensures { IfOk result (λ t. t ≡ book_line (position (G.history game.now)).board found) }
 {
     match found {
         Some((best, count)) => {
@@ -58,11 +58,11 @@ fn line_of<G: Game>(
 pub(crate) fn book_line<G: Game>(
     alloc: Global,
     game: &G,
-    tally: &Tally,
+    tally: &MoveTally,
 ) -> Result<ReplyText, AllocError>
-    requires { (games : List BookGame) × IsTally (position (G.course game.now)) games tally.now }
-    ensures { (games : List BookGame) → IsTally (position (G.course game.now)) games tally.now
-        → IfOk result (λ t. IsLineOf (position (G.course game.now)) games t) }
+    requires { (games : List BookGame) × IsTally (position (G.history game.now)) games tally.now }
+    ensures { (games : List BookGame) → IsTally (position (G.history game.now)) games tally.now
+        → IfOk result (λ t. IsLineOf (position (G.history game.now)) games t) }
 {
     line_of(alloc, game, tally.best())
 }

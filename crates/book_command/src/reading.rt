@@ -29,7 +29,7 @@ use game_text::{GameFault, played, read_game};
 use hive_model::{Game, ReplyText};
 use io_edge::Source;
 use line_feed::{LineAnswer, LineReader};
-use opening_book::Tally;
+use opening_book::MoveTally;
 use std::alloc::{AllocError, Global};
 
 /// The line that refuses the line of this number, with its LF.
@@ -54,7 +54,7 @@ fn refused(alloc: Global, number: u64) -> NoGame
 fn game_of<G: Game + Drop>(alloc: Global, text: &[u8], number: u64) -> Result<G, NoGame>
     requires { length text.now ≤ greatest_line }
     ensures game { IfOk result (λ g.
-        as_played (game_of text.now) ≡ Some (played_by (G.course g))) }
+        as_played (game_of text.now) ≡ Some (played_by (G.history g))) }
     ensures none { IfErr result (λ e. LacksGame e number (as_played (game_of text.now))) }
 {
     match read_game::<G>(alloc, text) {
@@ -78,7 +78,7 @@ fn next_game<S: Source, G: Game + Drop>(
         (λ o. MatchOption o
         (Ends reader.old bytes reader.new (S.rest input.new))
         (λ g. (line : AnyLine)
-        × GivesPlayed (G.course g) bytes reader.old reader.new (S.rest input.new) line))
+        × GivesPlayed (G.history g) bytes reader.old reader.new (S.rest input.new) line))
         (λ e. GivesNone e number bytes reader.old reader.new (S.rest input.new)) }
     ensures within { reader.new.passed ≤ input_limit }
     ensures cause { HasCause (result ≡ Err NoGame.ReadFault)
@@ -102,7 +102,7 @@ pub(crate) fn count_games<S: Source, G: Game + Drop>(
     alloc: Global,
     reader: &mut LineReader,
     input: &mut S,
-    tally: &mut Tally,
+    tally: &mut MoveTally,
 ) -> Result<(), NoGame>
     requires { tally.old.plies ≡ 0 }
     ensures games { IfOk result (λ _. (games : List BookGame) × Counted games tally.old tally.new

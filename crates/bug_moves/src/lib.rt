@@ -49,7 +49,7 @@ pub fn reach<B: Board>(kind: Kind, board: &B, from: Place, out: &mut PlaceList)
     requires within { IsOnTheMap from }
     ensures { AreAll (Reach kind (B.stacks board.now) from) out.new.items }
 {
-    board.is_board();
+    board.lemma_board();
     match kind {
         Kind::Queen | Kind::Pillbug => add_slides(&Slide, board, from, out),
         Kind::Beetle => add_slides(&Creep, board, from, out),
@@ -73,7 +73,7 @@ pub fn count_reach<B: Board>(kind: Kind, board: &B, from: Place, places: &mut Pl
     ensures { AreMany (Reach kind (B.stacks board.now) from) result }
 {
     if kind.is(Kind::Ant) {
-        board.is_board();
+        board.lemma_board();
         return count_ant_ways(board, from);
     }
     places.clear();

@@ -118,7 +118,7 @@ pub fn mosquito_reach<B: Board>(board: &B, from: Place, out: &mut PlaceList)
     requires within { IsOnTheMap from }
     ensures { AreAll (Copies (B.stacks board.now) from) out.new.items }
 {
-    board.is_board();
+    board.lemma_board();
     let height = board.height(from);
     if height > 0 {
         reach(Kind::Beetle, board, from, out);

@@ -58,7 +58,7 @@ pub fn reaches<B: Board>(kind: Kind, board: &B, from: Place, to: Place) -> bool
     requires within { IsOnTheMap from }
     ensures { IsTrue result ↔ Reach kind (B.stacks board.now) from to }
 {
-    board.is_board();
+    board.lemma_board();
     match kind {
         Kind::Queen | Kind::Pillbug => slides_to(board, from, to),
         Kind::Beetle => creeps_to(board, from, to),

@@ -2,7 +2,7 @@
 
 ghost use Rattle.std.specs.Prelude.{◌≡◌, ◌≤◌, ℕ, List, [], Option, Some, None, IfSome};
 ghost use Rattle.hive_model.specs.Legal.{moves};
-ghost use Rattle.hive_model.specs.Courses.{position};
+ghost use Rattle.hive_model.specs.Histories.{position};
 ghost use Rattle.certificate_walks.specs.Claims.{IsClaimOf, IsTrueOf};
 ghost use Rattle.certificate_walks.specs.Walks.{place_of};
 ghost use Rattle.certificate_walks.specs.Ends.{ChecksItems, EndsUnread};
@@ -25,27 +25,27 @@ pub fn shorten_certificate<G: Game, I: Items<Item = u32>>(
     draft: &mut Draft,
     stack: &mut MoveStack,
 ) -> Option<Checked<Why>>
-    requires claim { IsClaimOf (G.course game.old) claim.now.depth claim.now.value }
+    requires claim { IsClaimOf (G.history game.old) claim.now.depth claim.now.value }
     requires room { claim.now.depth ≤ stack.old.free }
     requires empty { draft.old ≡ record { taken = 0; lemmas = []; text = [] } }
     ensures accepted { result ≡ Some Checked.Accepted
-        → IsTrueOf (position (G.course game.old)) claim.now }
+        → IsTrueOf (position (G.history game.old)) claim.now }
     ensures told { (items : List (Option ℕ)) → (I.supply indices.old).left ≡ Some items
-        → ShortAnswers (shortened (position (G.course game.old))
+        → ShortAnswers (shortened (position (G.history game.old))
         claim.now.depth claim.now.best claim.now.value items) result draft.new }
-    ensures illegal { place_of claim.now.best (moves (position (G.course game.old))) ≡ None
+    ensures illegal { place_of claim.now.best (moves (position (G.history game.old))) ≡ None
         → result ≡ Some (Checked.Refused 0 Why.NoSuchMove) }
     ensures legal { (place : ℕ) → result ≡ Some (Checked.Refused place Why.NoSuchMove)
-        → place_of claim.now.best (moves (position (G.course game.old))) ≡ None }
+        → place_of claim.now.best (moves (position (G.history game.old))) ≡ None }
     ensures items { ChecksItems index_faults
-        (shortened (position (G.course game.old))
+        (shortened (position (G.history game.old))
         claim.now.depth claim.now.best claim.now.value) result
         (I.supply indices.old) (I.supply indices.new) }
     ensures unread { IfSome result (λ checked. EndsUnread index_faults
-        (shortened (position (G.course game.old))
+        (shortened (position (G.history game.old))
         claim.now.depth claim.now.best claim.now.value) checked
         (I.supply indices.old) (I.supply indices.new)) }
-    ensures game { G.course game.new ≡ G.course game.old }
+    ensures game { G.history game.new ≡ G.history game.old }
     ensures stack { stack.new ≡ stack.old }
 {
     let mut walker = ShortWalk::new(indices, draft);

@@ -15,7 +15,7 @@ ghost use Rattle.std.specs.Prelude.{
 };
 ghost use Rattle.io_edge.specs.Outside.{HasCause};
 ghost use Rattle.hive_model.specs.Legal.{moves};
-ghost use Rattle.hive_model.specs.Courses.{position};
+ghost use Rattle.hive_model.specs.Histories.{position};
 ghost use Rattle.certificate_walks.specs.Claims.{IsClaimOf, IsTrueOf};
 ghost use Rattle.certificate_walks.specs.Walks.{place_of};
 ghost use Rattle.certificate_walks.specs.Ends.{ChecksItems, EndsUnread};
@@ -75,30 +75,30 @@ pub fn migrate<G: Game, I: Items<Item = u32>, K: Sink>(
     stack: &mut MoveStack,
     sink: &mut K,
 ) -> Migrated
-    requires claim { IsClaimOf (G.course game.old) claim.now.depth claim.now.value }
+    requires claim { IsClaimOf (G.history game.old) claim.now.depth claim.now.value }
     requires room { claim.now.depth ≤ stack.old.free }
     ensures accepted { result ≡ Migrated.Done
-        → IsTrueOf (position (G.course game.old)) claim.now }
+        → IsTrueOf (position (G.history game.old)) claim.now }
     ensures told { (items : List (Option ℕ)) → (I.supply indices.old).left ≡ Some items
-        → MigrateAnswers (position (G.course game.old))
+        → MigrateAnswers (position (G.history game.old))
         claim.now.depth claim.now.best claim.now.value items head.now result
         (K.written sink.old) (K.written sink.new) }
     ensures late { WritesLate result (K.written sink.old) (K.written sink.new) }
-    ensures illegal { place_of claim.now.best (moves (position (G.course game.old))) ≡ None
+    ensures illegal { place_of claim.now.best (moves (position (G.history game.old))) ≡ None
         → (result ≡ Migrated.Refused 0 Why.NoSuchMove) ⊎ (result ≡ Migrated.Memory) }
     ensures legal { (place : ℕ) → result ≡ Migrated.Refused place Why.NoSuchMove
-        → place_of claim.now.best (moves (position (G.course game.old))) ≡ None }
+        → place_of claim.now.best (moves (position (G.history game.old))) ≡ None }
     ensures items { ChecksItems index_faults
-        (checked (position (G.course game.old))
+        (checked (position (G.history game.old))
         claim.now.depth claim.now.best claim.now.value) (answered result)
         (I.supply indices.old) (I.supply indices.new) }
     ensures unread { IfSome (answered result) (λ answer. EndsUnread index_faults
-        (checked (position (G.course game.old))
+        (checked (position (G.history game.old))
         claim.now.depth claim.now.best claim.now.value) answer
         (I.supply indices.old) (I.supply indices.new)) }
     ensures writes { HasCause (result ≡ Migrated.WriteFault)
         (K.write_faults sink.old) (K.write_faults sink.new) }
-    ensures game { G.course game.new ≡ G.course game.old }
+    ensures game { G.history game.new ≡ G.history game.old }
     ensures stack { stack.new ≡ stack.old }
 {
     let Ok(mut draft) = Draft::new(alloc) else {

@@ -3,7 +3,7 @@
 ghost use Rattle.std.specs.Prelude.{◌≡◌, [], Some, refl};
 ghost use Rattle.hive_model.specs.Keys.{key};
 ghost use Rattle.hive_model.specs.Minimax.{IsInner, value};
-ghost use Rattle.hive_model.specs.Courses.{position};
+ghost use Rattle.hive_model.specs.Histories.{position};
 ghost use Rattle.search_laws.specs.Laws.{IsSmall};
 ghost use Rattle.search_laws.specs.Nodes.{HasRoom};
 ghost use Rattle.certificate_walks.specs.Limits.{Keeps};
@@ -46,20 +46,20 @@ fn pass_over<G: Game, I: Items<Item = u32>>(
     draft: &mut Draft,
     stack: &mut MoveStack,
 ) -> Option<WalkAnswer<Why>>
-    requires inner { IsInner (position (G.course game.old)) depth }
+    requires inner { IsInner (position (G.history game.old)) depth }
     requires small { IsSmall 1000100 least }
-    requires room { HasRoom depth (G.course game.old) stack.old }
-    requires served { server (key (position (G.course game.old))) depth least draft.old.lemmas
+    requires room { HasRoom depth (G.history game.old) stack.old }
+    requires served { server (key (position (G.history game.old))) depth least draft.old.lemmas
         ≡ Some place }
     ensures shown { result ≡ Some WalkAnswer.Done
-        → Keeps (AtLeast least) (value (position (G.course game.old)) depth) }
-    ensures told { EndsHere short_rules short_sight (position (G.course game.old)) depth least
+        → Keeps (AtLeast least) (value (position (G.history game.old)) depth) }
+    ensures told { EndsHere short_rules short_sight (position (G.history game.old)) depth least
         (short_seen (I.supply indices.old).left draft.old) (short_ending result)
         (short_seen (I.supply indices.new).left draft.new) }
     ensures part { Taking index_faults result
         (moment_of [] draft.old.taken (I.supply indices.old))
         (moment_of [] draft.new.taken (I.supply indices.new)) }
-    ensures game { G.course game.new ≡ G.course game.old }
+    ensures game { G.history game.new ≡ G.history game.old }
     ensures stack { stack.new ≡ stack.old }
 {
     if !draft.cite(place) {

@@ -1,7 +1,7 @@
 -- What a game that was read keeps, and what is written for it.
 use Rattle.std.proofs.Common.{◌≡◌, ◌≤◌, ℕ, ap, sym, ◌∙◌, Some}
 use Rattle.hive_model.specs.declared.places.Move.{Move}
-use Rattle.hive_model.specs.Courses.{Course, position}
+use Rattle.hive_model.specs.Histories.{History, position}
 use Rattle.hive_model.specs.Minimax.{best, value}
 use Rattle.game_text.specs.declared.parsed.Parsed.{Parsed}
 use Rattle.search_laws.proofs.BestLaws.{best-exists}
@@ -15,7 +15,7 @@ use Rattle.command_runs.proofs.GameRunLemmas.{end_is, game_run}
 use Rattle.certificate_commands.specs.Certifying.{CertifyRun, certificates_of}
 
 -- the input was one game, and its certificate was written
-pub certified : (depth : ℕ) (status : Status) (before after : Sides) (c : Course) → 1 ≤ depth → IsUnderWay c → WhereTold before.rest (λ input. (game : Parsed) × IsAsked input after.rest game × IsReplayOf c game)
+pub certified : (depth : ℕ) (status : Status) (before after : Sides) (c : History) → 1 ≤ depth → IsUnderWay c → WhereTold before.rest (λ input. (game : Parsed) × IsAsked input after.rest game × IsReplayOf c game)
     → WritesAnswer (certificate_of c depth (best (position c) depth)) status before.written after.written → CertifyRun depth status before after
 certified depth status before after c some has given told =
     let found = best-exists (position c) depth (record { deep = some; open_ = has.open_ }) in

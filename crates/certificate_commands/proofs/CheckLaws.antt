@@ -4,7 +4,7 @@ use Rattle.std.specs.Prelude.{nat_eq, Result, Ok, Err, ℤ, if◌then◌else◌}
 use Rattle.hive_model.specs.declared.pieces.GameType.{GameType}
 use Rattle.hive_model.specs.declared.places.Move.{Move}
 use Rattle.hive_model.specs.Positions.{Position, opening}
-use Rattle.hive_model.specs.Courses.{Course}
+use Rattle.hive_model.specs.Histories.{History}
 use Rattle.hive_model.specs.Legal.{is_over}
 use Rattle.hive_model.specs.Games.{replay}
 use Rattle.hive_model.specs.Denotes.{Denotes}
@@ -118,9 +118,9 @@ held-cited = λ ls head m tokens h.
 -- the written text of a legal move denotes it
 pub named : (t : GameType) (ms : List Move) (d : ℕ) (m : Move) (v : ℤ) → MayClaim t ms d m v → claimed_move (claimed t ms d m v) ≡ Ok m
 named t ms d m v may =
-    let course : Course = record { game_type = t; made = ms; spare = 0 } in
+    let history : History = record { game_type = t; made = ms; spare = 0 } in
     of_denotes t (replay (opening t) ms).board (move-text t ms m) m
-    (subst (λ (k : GameType). Denotes k (replay (opening t) ms).board (move-text t ms m) m) (kind_here course) (legal-text t ms m may.game may.few may.legal))
+    (subst (λ (k : GameType). Denotes k (replay (opening t) ms).board (move-text t ms m) m) (kind_here history) (legal-text t ms m may.game may.few may.legal))
 
 pub certificate-accepted : CertificatesAreAccepted
 certificate-accepted = λ t ms depth m h.

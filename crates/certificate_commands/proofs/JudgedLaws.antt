@@ -2,7 +2,7 @@
 use Rattle.std.proofs.Common.{◌≡◌, ℕ, Bool, true, false, List, refl, sym, ap, subst, ◌∙◌}
 use Rattle.std.specs.Prelude.{Result, if◌then◌else◌}
 use Rattle.io_edge.specs.Outside.{Aside}
-use Rattle.hive_model.specs.Courses.{Course, position}
+use Rattle.hive_model.specs.Histories.{History, position}
 use Rattle.hive_model.specs.Legal.{is_over}
 use Rattle.io_edge.specs.Lines.{Line}
 use Rattle.line_feed.specs.Feed.{Reading}
@@ -35,7 +35,7 @@ if-later true v w e = cc
 if-later false v w e = refl
 
 -- the claim of a head, as one of the game in progress
-pub claim-lines : (head : Head) (c : Course) (claim : Claim) → Claims head c claim → (left : List Line) → of_lines head.version (position c) claim.depth claim.best claim.value left ≡ of_claim head left
+pub claim-lines : (head : Head) (c : History) (claim : Claim) → Claims head c claim → (left : List Line) → of_lines head.version (position c) claim.depth claim.best claim.value left ≡ of_claim head left
 claim-lines head c claim is left =
     let goes : is_over (end_of head) ≡ false = sym (ap is_over (ends-there head c is.kind is.made)) ∙ is.may_be.inner.open_ in
     (λ i. of_lines head.version (ends-there head c is.kind is.made i) (is.depth i) claim.best (is.value i) left)

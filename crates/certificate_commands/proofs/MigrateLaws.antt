@@ -5,7 +5,7 @@ use Rattle.io_edge.specs.Outside.{Told as AnyTold}
 use Rattle.hive_model.specs.declared.pieces.GameType.{GameType}
 use Rattle.hive_model.specs.declared.places.Move.{Move}
 use Rattle.hive_model.specs.Positions.{Position, opening}
-use Rattle.hive_model.specs.Courses.{Course, position}
+use Rattle.hive_model.specs.Histories.{History, position}
 use Rattle.hive_model.specs.Legal.{is_over, moves}
 use Rattle.hive_model.specs.Lists.{IsOn}
 use Rattle.hive_model.specs.Games.{replay}
@@ -67,8 +67,8 @@ claim-items head rest m first goes denotes =
     ∙ ap (λ n. of_lines n (end_of head) head.depth m head.value rest) first
 
 -- the same for the game in progress
-pub course-items : (head : Head) (rest : List Line) (c : Course) (claim : Claim) → head.version ≡ 1 → Claims head c claim → of_items (position c) claim.depth claim.best claim.value (map index_in rest) ≡ of_claim head rest
-course-items head rest c claim first is =
+pub history-items : (head : Head) (rest : List Line) (c : History) (claim : Claim) → head.version ≡ 1 → Claims head c claim → of_items (position c) claim.depth claim.best claim.value (map index_in rest) ≡ of_claim head rest
+history-items head rest c claim first is =
     ap (λ n. of_lines n (position c) claim.depth claim.best claim.value rest) (sym first) ∙ claim-lines head c claim is rest
 
 -- the result for a claim about a game of this type and these moves
@@ -91,9 +91,9 @@ head-writes head rest m r a b first goes denotes h =
     }) h
 
 -- for a game in progress that is the head's, and its claim
-pub course-writes : (head : Head) (rest : List Line) (c : Course) (claim : Claim) (r : Taken) (a b : AnyTold) → head.version ≡ 1 → Claims head c claim → MigratesFrom rest claim.best r a b c.game_type c.made claim.depth claim.value →
+pub history-writes : (head : Head) (rest : List Line) (c : History) (claim : Claim) (r : Taken) (a b : AnyTold) → head.version ≡ 1 → Claims head c claim → MigratesFrom rest claim.best r a b c.game_type c.made claim.depth claim.value →
     Writes (of_claim head rest) (MigratesHead head rest) r a b
-course-writes head rest c claim r a b first is h =
+history-writes head rest c claim r a b first is h =
     let goes : is_over (end_of head) ≡ false = sym (ap is_over (ends-there head c is.kind is.made)) ∙ is.may_be.inner.open_ in
     head-writes head rest claim.best r a b first goes is.denotes
     (subst (λ (v : ℤ). MigratesFrom rest claim.best r a b head.game_type head.moves head.depth v) is.value

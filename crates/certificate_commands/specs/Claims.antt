@@ -1,7 +1,7 @@
 -- The claim of a head, and what is judged of a text if its head has none.
 use Rattle.std.specs.Prelude.{◌≡◌, ◌≢◌, ℕ, List, Result, Ok, Err}
 use Rattle.io_edge.specs.Outside.{Told}
-use Rattle.hive_model.specs.Courses.{Course}
+use Rattle.hive_model.specs.Histories.{History}
 use Rattle.io_edge.specs.Lines.{Line}
 use Rattle.line_feed.specs.Feed.{Reading}
 use Rattle.certificate_walks.specs.declared.claim.Claim.{Claim}
@@ -17,10 +17,10 @@ use Rattle.certificate_commands.specs.Verdicts.{claimed_move, of_claim}
 
 -- The game in progress is that of the head, and is not over. The claim can be judged of it. It has
 -- the depth and the value of the head, and the move that the text of the head denotes.
-pub record Claims (head : Head) (course : Course) (claim : Claim) : Type 0 where
-  pub kind : course.game_type ≡ head.game_type
-  pub made : course.made ≡ head.moves
-  pub may_be : IsClaimOf course claim.depth claim.value
+pub record Claims (head : Head) (history : History) (claim : Claim) : Type 0 where
+  pub kind : history.game_type ≡ head.game_type
+  pub made : history.made ≡ head.moves
+  pub may_be : IsClaimOf history claim.depth claim.value
   pub depth : claim.depth ≡ head.depth
   pub value : claim.value ≡ head.value
   pub denotes : claimed_move head ≡ Ok claim.best

@@ -2,7 +2,7 @@
 
 ghost use Rattle.std.specs.Prelude.{◌≡◌, ◌≤◌};
 ghost use Rattle.io_edge.specs.Outside.{HasCause};
-ghost use Rattle.hive_model.specs.Courses.{position};
+ghost use Rattle.hive_model.specs.Histories.{position};
 ghost use Rattle.hive_model.specs.Minimax.{best};
 ghost use Rattle.command_runs.specs.Answered.{WritesAnswer};
 ghost use Rattle.command_runs.specs.Asking.{IsUnderWay};
@@ -27,12 +27,12 @@ fn tell_certificate<K: Sink, G: Game + Drop>(
     depth: u32,
     output: &mut K,
 ) -> Status
-    requires under_way { IsUnderWay (G.course game) }
+    requires under_way { IsUnderWay (G.history game) }
     requires some { 1 ≤ depth }
     requires deep { depth ≤ 64 }
-    requires spare { depth ≤ (G.course game).spare }
+    requires spare { depth ≤ (G.history game).spare }
     ensures told { WritesAnswer
-        (certificate_of (G.course game) depth (best (position (G.course game)) depth))
+        (certificate_of (G.history game) depth (best (position (G.history game)) depth))
         result (K.written output.old) (K.written output.new) }
     ensures cause { HasCause (result ≡ Status.WriteFault)
         (K.write_faults output.old) (K.write_faults output.new) }

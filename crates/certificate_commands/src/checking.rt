@@ -1,7 +1,7 @@
 //! Checks of certificates.
 
 ghost use Rattle.std.specs.Prelude.{◌≤◌, map};
-ghost use Rattle.hive_model.specs.Courses.{position};
+ghost use Rattle.hive_model.specs.Histories.{position};
 ghost use Rattle.certificate_text.specs.Text.{head_of, index_in};
 ghost use Rattle.certificate_text.specs.Heads.{IsHead};
 ghost use Rattle.command_runs.specs.Runs.{RunsAs, side_of};
@@ -41,9 +41,9 @@ fn judge_indices<S: Source, G: Game>(
     claim: &Claim,
     stack: &mut MoveStack,
 ) -> Result<TextVerdict, Unread>
-    requires claim { IsClaimOf (G.course game.old) claim.now.depth claim.now.value }
+    requires claim { IsClaimOf (G.history game.old) claim.now.depth claim.now.value }
     requires room { claim.now.depth ≤ stack.old.free }
-    ensures { JudgesAhead 5 (λ left. of_items (position (G.course game.old))
+    ensures { JudgesAhead 5 (λ left. of_items (position (G.history game.old))
         claim.now.depth claim.now.best claim.now.value (map index_in left)) 5 result reader.old
         (side_of S.rest S.read_faults input.old) (side_of S.rest S.read_faults input.new) }
 {
@@ -63,8 +63,8 @@ fn judge_move<S: Source, G: Game>(
     input: &mut S,
     game: &mut G,
 ) -> Result<TextVerdict, Unread>
-    requires claim { IsClaimOf (G.course game.old) claim.now.depth claim.now.value }
-    ensures { JudgesAhead 5 (of_lines version (position (G.course game.old))
+    requires claim { IsClaimOf (G.history game.old) claim.now.depth claim.now.value }
+    ensures { JudgesAhead 5 (of_lines version (position (G.history game.old))
         claim.now.depth claim.now.best claim.now.value) 5 result reader.old
         (side_of S.rest S.read_faults input.old) (side_of S.rest S.read_faults input.new) }
 {

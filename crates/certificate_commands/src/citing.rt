@@ -1,7 +1,7 @@
 //! Checks of certificates that cite.
 
 ghost use Rattle.std.specs.Prelude.{◌≡◌, ◌≤◌, map};
-ghost use Rattle.hive_model.specs.Courses.{position};
+ghost use Rattle.hive_model.specs.Histories.{position};
 ghost use Rattle.strategy_lemmas.specs.declared.tokens.Token.{Token as AnyToken};
 ghost use Rattle.strategy_lemmas.specs.Cited.{CitedSteps};
 ghost use Rattle.strategy_lemmas.specs.CitedChecks.{cited_faults};
@@ -64,9 +64,9 @@ pub(crate) fn judge_tokens<S: Source, G: Game>(
     lemmas: &mut Lemmas,
     stack: &mut MoveStack,
 ) -> Result<TextVerdict, Unread>
-    requires claim { IsClaimOf (G.course game.old) claim.now.depth claim.now.value }
+    requires claim { IsClaimOf (G.history game.old) claim.now.depth claim.now.value }
     requires room { claim.now.depth ≤ stack.old.free }
-    ensures { JudgesAhead 5 (λ left. of_tokens (position (G.course game.old))
+    ensures { JudgesAhead 5 (λ left. of_tokens (position (G.history game.old))
         claim.now.depth claim.now.best claim.now.value (map token_in left)) 5 result reader.old
         (side_of S.rest S.read_faults input.old) (side_of S.rest S.read_faults input.new) }
 {

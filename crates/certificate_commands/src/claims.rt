@@ -31,7 +31,7 @@ pub(crate) fn claimed<G: Game + Drop>(
     head: &Head,
 ) -> Result<ClaimedGame<G>, Result<TextVerdict, Unread>>
     requires { IsHead 2 head.now }
-    ensures claims { IfOk result (λ c. Claims head.now (G.course c.game) c.claim) }
+    ensures claims { IfOk result (λ c. Claims head.now (G.history c.game) c.claim) }
     ensures none { IfErr result (NoClaim head.now) }
 {
     let Ok(game) = played::<G>(alloc, head.game_type, head.moves.items(), head.depth) else {
@@ -40,7 +40,7 @@ pub(crate) fn claimed<G: Game + Drop>(
     if is_over(&game) {
         return Err(Ok(TextVerdict::GameOver));
     }
-    game.is_sound();
+    game.lemma_sound();
     match read_move(head.game_type, &game, head.claim_text.items()) {
         Ok(best) => {
             let claim = Claim {

@@ -3,7 +3,7 @@
 ghost use Rattle.std.specs.Prelude.{◌≡◌, IfOk};
 ghost use Rattle.hive_model.specs.Lists.{IsOn};
 ghost use Rattle.hive_model.specs.Legal.{moves};
-ghost use Rattle.hive_model.specs.Courses.{position};
+ghost use Rattle.hive_model.specs.Histories.{position};
 ghost use Rattle.certificate_text.specs.Text.{head_text};
 
 use certificate_text::write_head;
@@ -21,9 +21,9 @@ pub(crate) fn citing_head<G: Game + Drop>(
     game: &G,
     claim: &Claim,
 ) -> Result<ReplyText, AllocError>
-    requires { IsOn (moves (position (G.course game.now))) claim.now.best }
+    requires { IsOn (moves (position (G.history game.now))) claim.now.best }
     ensures { IfOk result (λ t. t ≡ head_text 2
-        (G.course game.now).game_type (G.course game.now).made
+        (G.history game.now).game_type (G.history game.now).made
         claim.now.depth claim.now.best claim.now.value) }
 {
     write_head(alloc, game, CITING, claim)

@@ -18,7 +18,7 @@ ghost use Rattle.std.specs.Prelude.{
 ghost use Rattle.io_edge.specs.Outside.{HasCause, Told as AnyTold};
 ghost use Rattle.line_feed.specs.Feed.{Reading};
 ghost use Rattle.io_edge.specs.Lines.{lines};
-ghost use Rattle.hive_model.specs.Courses.{position};
+ghost use Rattle.hive_model.specs.Histories.{position};
 ghost use Rattle.hive_model.specs.declared.places.Move.{Move as AnyMove};
 ghost use Rattle.hive_model.specs.Positions.{Position};
 ghost use Rattle.strategy_check.specs.Trace.{checked};
@@ -140,12 +140,12 @@ fn migrate_lines<S: Source, G: Game, K: Sink>(
     stack: &mut MoveStack,
     output: &mut K,
 ) -> Taken
-    requires claim { IsClaimOf (G.course game.old) claim.now.depth claim.now.value }
+    requires claim { IsClaimOf (G.history game.old) claim.now.depth claim.now.value }
     requires room { claim.now.depth ≤ stack.old.free }
     ensures { MigratesAhead
-        (λ left. of_items (position (G.course game.old))
+        (λ left. of_items (position (G.history game.old))
         claim.now.depth claim.now.best claim.now.value (map index_in left))
-        (λ left. OfItems (position (G.course game.old))
+        (λ left. OfItems (position (G.history game.old))
         claim.now.depth claim.now.best claim.now.value (map index_in left) head.now)
         5 result reader.old
         (side_of S.rest S.read_faults input.old) (side_of K.written K.write_faults output.old)
@@ -165,13 +165,13 @@ fn migrate_move<S: Source, G: Game + Drop, K: Sink>(
     game: &mut G,
     output: &mut K,
 ) -> Taken
-    requires claim { IsClaimOf (G.course game.old) claim.now.depth claim.now.value }
+    requires claim { IsClaimOf (G.history game.old) claim.now.depth claim.now.value }
     ensures { MigratesAhead
-        (λ left. of_items (position (G.course game.old))
+        (λ left. of_items (position (G.history game.old))
         claim.now.depth claim.now.best claim.now.value (map index_in left))
-        (λ left. OfItems (position (G.course game.old))
+        (λ left. OfItems (position (G.history game.old))
         claim.now.depth claim.now.best claim.now.value (map index_in left)
-        (head_text 2 (G.course game.old).game_type (G.course game.old).made
+        (head_text 2 (G.history game.old).game_type (G.history game.old).made
         claim.now.depth claim.now.best claim.now.value))
         5 result reader.old
         (side_of S.rest S.read_faults input.old) (side_of K.written K.write_faults output.old)

@@ -12,7 +12,7 @@ use Rattle.hive_model.specs.declared.places.Move.{Move}
 use Rattle.hive_model.specs.Positions.{Position}
 use Rattle.hive_model.specs.Legal.{moves}
 use Rattle.hive_model.specs.Games.{after}
-use Rattle.hive_model.specs.Courses.{Course, position, with_move}
+use Rattle.hive_model.specs.Histories.{History, position, with_move}
 use Rattle.hive_model.specs.Minimax.{IsInner, value}
 use Rattle.std.proofs.lemmas.Int.{ints}
 use Rattle.certificate_walks.proofs.SoundLaws.{keeps-true, true-keeps}
@@ -166,25 +166,25 @@ kept-same c v w forth back =
 
 -- ---- the code
 
-pub child-written : (start played : Course) (m : Move) (e : ℕ) (c : Limit) (r : Bool) (a b : Told) → played ≡ with_move start m →
+pub child-written : (start played : History) (m : Move) (e : ℕ) (c : Limit) (r : Bool) (a b : Told) → played ≡ with_move start m →
     Wrote r (index_lines (least (position played) e c)) a b → Wrote r (index_lines (least (after (position start) m) e c)) a b
 child-written start played m e c r a b moved h = wrote-as r _ _ a b (ap (λ q. index_lines (least q e c)) (position-behind start played m moved)) h
 
-pub child-kept : (start played : Course) (m : Move) (e : ℕ) (c : Limit) (r : Bool) → played ≡ with_move start m → r ≡ is_kept c (value (position played) e) → r ≡ keeps_below (position start) e c m
+pub child-kept : (start played : History) (m : Move) (e : ℕ) (c : Limit) (r : Bool) → played ≡ with_move start m → r ≡ is_kept c (value (position played) e) → r ≡ keeps_below (position start) e c m
 child-kept start played m e c r moved h = h ∙ ap (λ q. is_kept c (value q e)) (position-behind start played m moved)
 
-here-written : (start now : Course) (e : ℕ) (c : Limit) (m : Move) (r0 r : Bool) (a mid : Told) → now ≡ start → r0 ≡ r → Wrote r0 (index_lines (least (after (position now) m) e c)) a mid →
+here-written : (start now : History) (e : ℕ) (c : Limit) (m : Move) (r0 r : Bool) (a mid : Told) → now ≡ start → r0 ≡ r → Wrote r0 (index_lines (least (after (position now) m) e c)) a mid →
     Wrote r (index_lines (least (after (position start) m) e c)) a mid
-here-written start now e c m r0 r a mid same is h = wrote-is r0 r _ a mid is (subst (λ (g : Course). Wrote r0 (index_lines (least (after (position g) m) e c)) a mid) same h)
+here-written start now e c m r0 r a mid same is h = wrote-is r0 r _ a mid is (subst (λ (g : History). Wrote r0 (index_lines (least (after (position g) m) e c)) a mid) same h)
 
-pub turn-written : (start now : Course) (e : ℕ) (c : Limit) (i to : ℕ) (m : Move) (r0 r : Bool) (a mid b : Told) → now ≡ start → slice_get (moves (position start)) i ≡ Some m → i < to → r0 ≡ true →
+pub turn-written : (start now : History) (e : ℕ) (c : Limit) (i to : ℕ) (m : Move) (r0 r : Bool) (a mid b : Told) → now ≡ start → slice_get (moves (position start)) i ≡ Some m → i < to → r0 ≡ true →
     Wrote r0 (index_lines (least (after (position now) m) e c)) a mid → Wrote r (lines_below (position start) e c (range_of (moves (position start)) (i + 1) to)) mid b →
     Wrote r (lines_below (position start) e c (range_of (moves (position start)) i to)) a b
 turn-written start now e c i to m r0 r a mid b same here low whole first later =
     wrote-as r _ _ a b (sym (lines-next (position start) e c i to m here low))
     (wrote-then r (index_lines (least (after (position start) m) e c)) (lines_below (position start) e c (range_of (moves (position start)) (i + 1) to)) a mid b (here-written start now e c m r0 true a mid same whole first) later)
 
-pub turn-cut : (start now : Course) (e : ℕ) (c : Limit) (i to : ℕ) (m : Move) (r0 : Bool) (a mid : Told) → now ≡ start → slice_get (moves (position start)) i ≡ Some m → i < to → r0 ≡ false →
+pub turn-cut : (start now : History) (e : ℕ) (c : Limit) (i to : ℕ) (m : Move) (r0 : Bool) (a mid : Told) → now ≡ start → slice_get (moves (position start)) i ≡ Some m → i < to → r0 ≡ false →
     Wrote r0 (index_lines (least (after (position now) m) e c)) a mid → Wrote false (lines_below (position start) e c (range_of (moves (position start)) i to)) a mid
 turn-cut start now e c i to m r0 a mid same here low cut first =
     wrote-as false _ _ a mid (sym (lines-next (position start) e c i to m here low))
@@ -194,7 +194,7 @@ pub turn-over : (p : Position) (e : ℕ) (c : Limit) (i to : ℕ) (a : Told) →
 turn-over p e c i to a past = wrote-as true _ _ a a (sym (lines-end p e c i to past)) (wrote-nothing a)
 
 -- a node that names a move
-pub node-written : (start now : Course) (d : ℕ) (l : Limit) (x y : ℤ) (k : ℕ) (m : Move) (r0 r : Bool) (a mid b : Told) → IsInner (position start) d → l ≡ AtLeast x → y ≡ neg_ℤ x → now ≡ start →
+pub node-written : (start now : History) (d : ℕ) (l : Limit) (x y : ℤ) (k : ℕ) (m : Move) (r0 r : Bool) (a mid b : Told) → IsInner (position start) d → l ≡ AtLeast x → y ≡ neg_ℤ x → now ≡ start →
     Some k ≡ first_kept (position start) (d - 1) (AtMost y) (moves (position start)) → slice_get (moves (position start)) k ≡ Some m → r0 ≡ true →
     Wrote r0 (index_line k) a mid → Wrote r (index_lines (least (after (position now) m) (d - 1) (AtMost y))) mid b → Wrote r (index_lines (least (position start) d l)) a b
 node-written start now d l x y k m r0 r a mid b inner is turned same found here whole first later =
@@ -234,8 +234,8 @@ pub find-met : (p : Position) (e : ℕ) (c : Limit) (i : ℕ) (m : Move) → sli
     Some i ≡ first_kept p e c (moves p)
 find-met p e c i m here so yes_ = position-met (keeps_below p e c) (λ n. []) (moves p) i m so here yes_
 
-pub kept-at : (start now : Course) (e : ℕ) (c : Limit) (m : Move) (r b : Bool) → now ≡ start → r ≡ keeps_below (position now) e c m → r ≡ b → keeps_below (position start) e c m ≡ b
-kept-at start now e c m r b same kept is = ap (λ (g : Course). keeps_below (position g) e c m) (sym same) ∙ sym kept ∙ is
+pub kept-at : (start now : History) (e : ℕ) (c : Limit) (m : Move) (r b : Bool) → now ≡ start → r ≡ keeps_below (position now) e c m → r ≡ b → keeps_below (position start) e c m ≡ b
+kept-at start now e c m r b same kept is = ap (λ (g : History). keeps_below (position g) e c m) (sym same) ∙ sym kept ∙ is
 
 pub place-under : (p : Position) (e : ℕ) (c : Limit) (k : ℕ) → Some k ≡ first_kept p e c (moves p) → k < length (moves p)
 place-under p e c k found =

@@ -2,7 +2,7 @@
 
 ghost use Rattle.std.specs.Prelude.{◌≡◌, ◌≤◌, ◌<ℤ◌, ◌≤ℤ◌, ℕ, ℤ};
 ghost use Rattle.hive_model.specs.Minimax.{value, lowest, highest};
-ghost use Rattle.hive_model.specs.Courses.{position};
+ghost use Rattle.hive_model.specs.Histories.{position};
 ghost use Rattle.search_laws.specs.Found.{IsFound};
 ghost use Rattle.search_laws.specs.Laws.{IsSmall};
 ghost use Rattle.certificate_walks.specs.Limits.{is_kept, number};
@@ -23,9 +23,9 @@ pub trait Judge {
     fn is_kept<G: Game>(&mut self, game: &mut G, depth: u32, limit: Limit) -> bool
         requires deep { depth ≤ 64 }
         requires told { CanTell depth limit (prepared self.old) }
-        requires spare { depth ≤ (G.course game.old).spare }
-        ensures kept { result ≡ is_kept limit (value (position (G.course game.old)) depth) }
-        ensures game { G.course game.new ≡ G.course game.old }
+        requires spare { depth ≤ (G.history game.old).spare }
+        ensures kept { result ≡ is_kept limit (value (position (G.history game.old)) depth) }
+        ensures game { G.history game.new ≡ G.history game.old }
         ensures same { prepared self.new ≡ prepared self.old };
 }
 

@@ -6,7 +6,7 @@ ghost use Rattle.hive_model.specs.Lists.{IsOn};
 ghost use Rattle.hive_model.specs.Legal.{moves};
 ghost use Rattle.hive_model.specs.Games.{after};
 ghost use Rattle.hive_model.specs.Minimax.{IsInner};
-ghost use Rattle.hive_model.specs.Courses.{position};
+ghost use Rattle.hive_model.specs.Histories.{position};
 ghost use Rattle.hive_model.specs.Stack.{level_of};
 ghost use Rattle.search_laws.specs.Leaves.{IsLeaf};
 ghost use Rattle.search_laws.specs.Nodes.{HasRoom, IsNode, CanReply, AreAsBefore};
@@ -48,10 +48,10 @@ fn is_kept_below<G: Game, J: Judge>(
 ) -> bool
     requires deep { depth < 64 }
     requires told { CanTell depth limit (J.prepared judge.old) }
-    requires legal { IsOn (moves (position (G.course game.old))) m }
-    requires spare { depth < (G.course game.old).spare }
-    ensures kept { result ≡ keeps_below (position (G.course game.old)) depth limit m }
-    ensures game { G.course game.new ≡ G.course game.old }
+    requires legal { IsOn (moves (position (G.history game.old))) m }
+    requires spare { depth < (G.history game.old).spare }
+    ensures kept { result ≡ keeps_below (position (G.history game.old)) depth limit m }
+    ensures game { G.history game.new ≡ G.history game.old }
     ensures same { J.prepared judge.new ≡ J.prepared judge.old }
 {
     game.play(m);
@@ -72,12 +72,12 @@ fn find_kept<G: Game, J: Judge>(
 ) -> Option<u32>
     requires deep { depth < 64 }
     requires told { CanTell depth limit (J.prepared judge.old) }
-    requires spare { depth < (G.course game.old).spare }
+    requires spare { depth < (G.history game.old).spare }
     requires level { level < length stack.now.lists }
-    requires listed { level_of stack.now level ≡ moves (position (G.course game.old)) }
-    ensures found { result ≡ first_kept (position (G.course game.old)) depth limit
-        (moves (position (G.course game.old))) }
-    ensures game { G.course game.new ≡ G.course game.old }
+    requires listed { level_of stack.now level ≡ moves (position (G.history game.old)) }
+    ensures found { result ≡ first_kept (position (G.history game.old)) depth limit
+        (moves (position (G.history game.old))) }
+    ensures game { G.history game.new ≡ G.history game.old }
     ensures same { J.prepared judge.new ≡ J.prepared judge.old }
 {
     let count = stack.level_len(level);
@@ -92,8 +92,8 @@ fn find_kept<G: Game, J: Judge>(
 
 /// Whether no move is tried, because no ply is left to search or the game is over.
 fn is_leaf<G: Game>(game: &G, depth: u32) -> bool
-    ensures leaf { IsTrue result → IsLeaf (position (G.course game.now)) depth }
-    ensures inner { result ≡ false → IsInner (position (G.course game.now)) depth }
+    ensures leaf { IsTrue result → IsLeaf (position (G.history game.now)) depth }
+    ensures inner { result ≡ false → IsInner (position (G.history game.now)) depth }
 {
     depth == 0 || game.state().is_over()
 }
@@ -110,12 +110,12 @@ pub fn write_indices<G: Game, J: Judge, K: Sink>(
     stack: &mut MoveStack,
     sink: &mut K,
 ) -> bool
-    requires room { HasRoom depth (G.course game.old) stack.old }
+    requires room { HasRoom depth (G.history game.old) stack.old }
     requires told { CanTell depth limit (J.prepared judge.old) }
-    ensures wrote { Wrote result (index_lines (least (position (G.course game.old)) depth limit))
+    ensures wrote { Wrote result (index_lines (least (position (G.history game.old)) depth limit))
         (K.written sink.old) (K.written sink.new) }
     ensures cause { HasCause (result ≡ false) (K.write_faults sink.old) (K.write_faults sink.new) }
-    ensures before { AreAsBefore (G.course game.old) (G.course game.new) stack.old stack.new }
+    ensures before { AreAsBefore (G.history game.old) (G.history game.new) stack.old stack.new }
     ensures same { J.prepared judge.new ≡ J.prepared judge.old }
 {
     if is_leaf(game, depth) {
@@ -139,12 +139,12 @@ fn write_node<G: Game, J: Judge, K: Sink>(
     stack: &mut MoveStack,
     sink: &mut K,
 ) -> bool
-    requires node { IsNode depth level (G.course game.old) stack.old }
+    requires node { IsNode depth level (G.history game.old) stack.old }
     requires told { CanTell depth limit (J.prepared judge.old) }
-    ensures wrote { Wrote result (index_lines (least (position (G.course game.old)) depth limit))
+    ensures wrote { Wrote result (index_lines (least (position (G.history game.old)) depth limit))
         (K.written sink.old) (K.written sink.new) }
     ensures cause { HasCause (result ≡ false) (K.write_faults sink.old) (K.write_faults sink.new) }
-    ensures before { AreAsBefore (G.course game.old) (G.course game.new) stack.old stack.new }
+    ensures before { AreAsBefore (G.history game.old) (G.history game.new) stack.old stack.new }
     ensures same { J.prepared judge.new ≡ J.prepared judge.old }
 {
     match limit {
@@ -181,14 +181,14 @@ pub fn write_moves<G: Game, J: Judge, K: Sink>(
     stack: &mut MoveStack,
     sink: &mut K,
 ) -> bool
-    requires replies { HasReplies depth level (G.course game.old) stack.old }
+    requires replies { HasReplies depth level (G.history game.old) stack.old }
     requires told { CanTell depth limit (J.prepared judge.old) }
-    requires before { to ≤ length (moves (position (G.course game.old))) }
-    ensures wrote { Wrote result (lines_below (position (G.course game.old)) depth limit
-        (range_of (moves (position (G.course game.old))) from to)) (K.written sink.old)
+    requires before { to ≤ length (moves (position (G.history game.old))) }
+    ensures wrote { Wrote result (lines_below (position (G.history game.old)) depth limit
+        (range_of (moves (position (G.history game.old))) from to)) (K.written sink.old)
         (K.written sink.new) }
     ensures cause { HasCause (result ≡ false) (K.write_faults sink.old) (K.write_faults sink.new) }
-    ensures before { AreAsBefore (G.course game.old) (G.course game.new) stack.old stack.new }
+    ensures before { AreAsBefore (G.history game.old) (G.history game.new) stack.old stack.new }
     ensures same { J.prepared judge.new ≡ J.prepared judge.old }
 {
     for i in from..to {
@@ -211,13 +211,13 @@ pub fn write_child<G: Game, J: Judge, K: Sink>(
     stack: &mut MoveStack,
     sink: &mut K,
 ) -> bool
-    requires can { CanReply m depth (G.course game.old) stack.old }
+    requires can { CanReply m depth (G.history game.old) stack.old }
     requires told { CanTell depth limit (J.prepared judge.old) }
     ensures wrote { Wrote result (index_lines
-        (least (after (position (G.course game.old)) m) depth limit)) (K.written sink.old)
+        (least (after (position (G.history game.old)) m) depth limit)) (K.written sink.old)
         (K.written sink.new) }
     ensures cause { HasCause (result ≡ false) (K.write_faults sink.old) (K.write_faults sink.new) }
-    ensures before { AreAsBefore (G.course game.old) (G.course game.new) stack.old stack.new }
+    ensures before { AreAsBefore (G.history game.old) (G.history game.new) stack.old stack.new }
     ensures same { J.prepared judge.new ≡ J.prepared judge.old }
 {
     game.play(m);

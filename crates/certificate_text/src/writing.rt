@@ -5,7 +5,7 @@ ghost use Rattle.std.specs.Fmt.{signed_decimal};
 ghost use Rattle.hive_model.specs.Lists.{IsOn};
 ghost use Rattle.hive_model.specs.Legal.{moves};
 ghost use Rattle.hive_model.specs.Games.{IsGame};
-ghost use Rattle.hive_model.specs.Courses.{position};
+ghost use Rattle.hive_model.specs.Histories.{position};
 ghost use Rattle.hive_model.specs.Denotes.{text as text_of};
 ghost use Rattle.certificate_text.specs.Text.{head_text, index_line, written_line};
 
@@ -53,12 +53,12 @@ pub fn push_move<G: Game>(
     game: &G,
     m: Move,
 ) -> Result<(), AllocError>
-    requires { IsOn (moves (position (G.course game.now))) m }
+    requires { IsOn (moves (position (G.history game.now))) m }
     ensures line { OnOk result (text.new ≡ text.old
-        ++ written_line (word.now ++ text_of (position (G.course game.now)).board m)) }
-    ensures game { IsGame (G.course game.now).game_type (G.course game.now).made }
+        ++ written_line (word.now ++ text_of (position (G.history game.now)).board m)) }
+    ensures game { IsGame (G.history game.now).game_type (G.history game.now).made }
 {
-    game.is_sound();
+    game.lemma_sound();
     let written = write_move(game, m);
     push_line(text, word, written.as_str().as_bytes())
 }
@@ -84,12 +84,12 @@ pub fn write_head<G: Game + Drop>(
     version: u32,
     claim: &Claim,
 ) -> Result<ReplyText, AllocError>
-    requires { IsOn (moves (position (G.course game.now))) claim.now.best }
+    requires { IsOn (moves (position (G.history game.now))) claim.now.best }
     ensures head { IfOk result (λ t. t ≡ head_text version
-        (G.course game.now).game_type (G.course game.now).made
+        (G.history game.now).game_type (G.history game.now).made
         claim.now.depth claim.now.best claim.now.value) }
-    ensures game { IfOk result (λ t. IsGame (G.course game.now).game_type
-        (G.course game.now).made) }
+    ensures game { IfOk result (λ t. IsGame (G.history game.now).game_type
+        (G.history game.now).made) }
 {
     let mut text = ReplyText::new(alloc);
     push_number(&mut text, b"hive-certificate ", u64::from(version))?;

@@ -7,11 +7,11 @@ use Rattle.hive_model.specs.declared.places.Move.{Move}
 use Rattle.hive_model.specs.Positions.{Position}
 use Rattle.hive_model.specs.Legal.{moves}
 use Rattle.hive_model.specs.Games.{after}
-use Rattle.hive_model.specs.Courses.{Course, position, with_move}
+use Rattle.hive_model.specs.Histories.{History, position, with_move}
 use Rattle.hive_model.specs.Minimax.{IsInner, value, reply_value, best}
 use Rattle.search_laws.specs.Laws.{IsSmall}
 use Rattle.search_laws.specs.Leaves.{IsLeaf}
-use Rattle.search_laws.proofs.CourseLaws.{position-with_move}
+use Rattle.search_laws.proofs.HistoryLaws.{position-with_move}
 use Rattle.search_laws.proofs.LoopLaws.{drop-at}
 use Rattle.search_laws.proofs.Signs.{neg-is}
 use Rattle.certificate_walks.specs.declared.limit.Limit.{Limit}
@@ -56,20 +56,20 @@ range-behind ms k count e = take-more (count - k) (drop k ms) (omega (arith, e, 
 
 -- ---- what is shown
 
-pub position-behind : (start played : Course) (m : Move) → played ≡ with_move start m → position played ≡ after (position start) m
+pub position-behind : (start played : History) (m : Move) → played ≡ with_move start m → position played ≡ after (position start) m
 position-behind start played m moved = ap position moved ∙ position-with_move start m
 
-pub shown-child : (start played : Course) (m : Move) (d : ℕ) (c : Limit) → played ≡ with_move start m → Keeps c (value (position played) d) → Keeps c (value (after (position start) m) d)
+pub shown-child : (start played : History) (m : Move) (d : ℕ) (c : Limit) → played ≡ with_move start m → Keeps c (value (position played) d) → Keeps c (value (after (position start) m) d)
 shown-child start played m d c moved h = subst (λ (p : Position). Keeps c (value p d)) (position-behind start played m moved) h
 
 shown-next : (p : Position) (d : ℕ) (c : Limit) (i to : ℕ) (m : Move) → slice_get (moves p) i ≡ Some m → i < to → Keeps c (value (after p m) d) →
     EachKeeps p d c (range_of (moves p) (i + 1) to) → EachKeeps p d c (range_of (moves p) i to)
 shown-next p d c i to m here low first later = subst (EachKeeps p d c) (sym (range-next (moves p) i to m here low)) (first, later)
 
-pub turn-shown : (start now : Course) (d : ℕ) (c : Limit) (i to : ℕ) (m : Move) → now ≡ start → slice_get (moves (position start)) i ≡ Some m → i < to →
+pub turn-shown : (start now : History) (d : ℕ) (c : Limit) (i to : ℕ) (m : Move) → now ≡ start → slice_get (moves (position start)) i ≡ Some m → i < to →
     Keeps c (value (after (position now) m) d) → EachKeeps (position start) d c (range_of (moves (position start)) (i + 1) to) → EachKeeps (position start) d c (range_of (moves (position start)) i to)
 turn-shown start now d c i to m same here low first later =
-    shown-next (position start) d c i to m here low (subst (λ (h : Course). Keeps c (value (after (position h) m) d)) same first) later
+    shown-next (position start) d c i to m here low (subst (λ (h : History). Keeps c (value (after (position h) m) d)) same first) later
 
 less-one : (d : ℕ) → suc d - 1 ≡ d
 less-one d = omega arith
@@ -167,26 +167,26 @@ module _ {S W N : Type 0} (R : Rules S W) (V : Sight S W N) where
       subst (λ (o : WalkEnd S W). Meets V o w a) (sym (walk-leaf R p e c s leaf))
       (leaf-meets counts (is_kept c (value p e)) s a w here (is ∙ ap (λ z. cond (is_kept c z) Shown (Refused R.reasons.leaf_fails)) worth))
 
-  pub follows-child : (start played : Course) (m : Move) (d : ℕ) (c : Limit) (a b : N) (w : Ending W) → played ≡ with_move start m → Walks (position played) d c a w b → Walks (after (position start) m) d c a w b
+  pub follows-child : (start played : History) (m : Move) (d : ℕ) (c : Limit) (a b : N) (w : Ending W) → played ≡ with_move start m → Walks (position played) d c a w b → Walks (after (position start) m) d c a w b
   follows-child start played m d c a b w moved h = subst (λ (p : Position). Walks p d c a w b) (position-behind start played m moved) h
 
   -- every move of a range
   abbrev pub WalksAll : Position → ℕ → Limit → List Move → N → Ending W → N → Type 0
   WalksAll p d c ms = Follows V (walk_all (λ m. walk R (after p m) d c) ms)
 
-  pub turn-told : (start now : Course) (d : ℕ) (c : Limit) (i to : ℕ) (m : Move) (a b : N) (w : Ending W) → now ≡ start → slice_get (moves (position start)) i ≡ Some m → i < to → w ≡ Shown →
+  pub turn-told : (start now : History) (d : ℕ) (c : Limit) (i to : ℕ) (m : Move) (a b : N) (w : Ending W) → now ≡ start → slice_get (moves (position start)) i ≡ Some m → i < to → w ≡ Shown →
       Walks (after (position now) m) d c a w b → (u : Ending W) (e : N) →
       WalksAll (position start) d c (range_of (moves (position start)) (i + 1) to) b u e → WalksAll (position start) d c (range_of (moves (position start)) i to) a u e
   turn-told start now d c i to m a b w same here low done first u e later =
-      let first_here : Walks (after (position start) m) d c a w b = subst (λ (h : Course). Walks (after (position h) m) d c a w b) same first in
+      let first_here : Walks (after (position start) m) d c a w b = subst (λ (h : History). Walks (after (position h) m) d c a w b) same first in
       let first_done : Walks (after (position start) m) d c a Shown b = subst (λ (v : Ending W). Walks (after (position start) m) d c a v b) done first_here in
       follows-next V (λ m. walk R (after (position start) m) d c) (moves (position start)) i to m a b e u here low first_done later
 
-  pub turn-stops : CarriesOn R V → (start now : Course) (d : ℕ) (c : Limit) (i to : ℕ) (m : Move) (a b : N) (w : Ending W) → now ≡ start → slice_get (moves (position start)) i ≡ Some m → i < to → (w ≡ Shown → ⊥) →
+  pub turn-stops : CarriesOn R V → (start now : History) (d : ℕ) (c : Limit) (i to : ℕ) (m : Move) (a b : N) (w : Ending W) → now ≡ start → slice_get (moves (position start)) i ≡ Some m → i < to → (w ≡ Shown → ⊥) →
       Walks (after (position now) m) d c a w b → WalksAll (position start) d c (range_of (moves (position start)) i to) a w b
   turn-stops on start now d c i to m a b w same here low not first =
       follows-here V (λ m. walk R (after (position start) m) d c) (moves (position start)) i to m a b w here low not (λ n. walk-carries R V on d (after (position start) n) c)
-      (subst (λ (h : Course). Walks (after (position h) m) d c a w b) same first)
+      (subst (λ (h : History). Walks (after (position h) m) d c a w b) same first)
 
   pub turn-past : (p : Position) (d : ℕ) (c : Limit) (i to : ℕ) (a : N) → to ≤ i → WalksAll p d c (range_of (moves p) i to) a Shown a
   turn-past p d c i to a past = follows-past V (λ m. walk R (after p m) d c) (moves p) i to a past
@@ -265,23 +265,23 @@ module _ {S W N : Type 0} (R : Rules S W) (V : Sight S W N) where
       subst (λ (ms : List Move). WalksAll p e (AtLeast (pos 1 -ℤ v)) ms a w b) (range-before (moves p) k)
       (subst (λ (z : ℤ). WalksAll p e (AtLeast z) (range_of (moves p) 0 k) a w b) ey h)
 
-  pub high-is : (start now : Course) (e : ℕ) (m : Move) (v y : ℤ) (a b : N) (w : Ending W) → now ≡ start → y ≡ neg_ℤ v → Walks (after (position now) m) e (AtMost y) a w b → High (position start) e m v a w b
+  pub high-is : (start now : History) (e : ℕ) (m : Move) (v y : ℤ) (a b : N) (w : Ending W) → now ≡ start → y ≡ neg_ℤ v → Walks (after (position now) m) e (AtMost y) a w b → High (position start) e m v a w b
   high-is start now e m v y a b w same ey h =
-      subst (λ (g : Course). Walks (after (position g) m) e (AtMost (neg_ℤ v)) a w b) same (subst (λ (z : ℤ). Walks (after (position now) m) e (AtMost z) a w b) ey h)
+      subst (λ (g : History). Walks (after (position g) m) e (AtMost (neg_ℤ v)) a w b) same (subst (λ (z : ℤ). Walks (after (position now) m) e (AtMost z) a w b) ey h)
 
-  pub low-is : (start now : Course) (e : ℕ) (m : Move) (v y : ℤ) (a b : N) (w : Ending W) → now ≡ start → y ≡ neg_ℤ v → Walks (after (position now) m) e (AtLeast y) a w b → Low (position start) e m v a w b
+  pub low-is : (start now : History) (e : ℕ) (m : Move) (v y : ℤ) (a b : N) (w : Ending W) → now ≡ start → y ≡ neg_ℤ v → Walks (after (position now) m) e (AtLeast y) a w b → Low (position start) e m v a w b
   low-is start now e m v y a b w same ey h =
-      subst (λ (g : Course). Walks (after (position g) m) e (AtLeast (neg_ℤ v)) a w b) same (subst (λ (z : ℤ). Walks (after (position now) m) e (AtLeast z) a w b) ey h)
+      subst (λ (g : History). Walks (after (position g) m) e (AtLeast (neg_ℤ v)) a w b) same (subst (λ (z : ℤ). Walks (after (position now) m) e (AtLeast z) a w b) ey h)
 
-  pub behind-is : (start now : Course) (e k count : ℕ) (v y : ℤ) (a b : N) (w : Ending W) → now ≡ start → y ≡ neg_ℤ v → count ≡ length (moves (position start)) →
+  pub behind-is : (start now : History) (e k count : ℕ) (v y : ℤ) (a b : N) (w : Ending W) → now ≡ start → y ≡ neg_ℤ v → count ≡ length (moves (position start)) →
       WalksAll (position now) e (AtLeast y) (range_of (moves (position now)) (k + 1) count) a w b → Behind (position start) e k v a w b
   behind-is start now e k count v y a b w same ey all h =
       subst (λ (ms : List Move). WalksAll (position start) e (AtLeast (neg_ℤ v)) ms a w b) (range-behind (moves (position start)) (k + 1) count all)
-      (subst (λ (g : Course). WalksAll (position g) e (AtLeast (neg_ℤ v)) (range_of (moves (position g)) (k + 1) count) a w b) same
+      (subst (λ (g : History). WalksAll (position g) e (AtLeast (neg_ℤ v)) (range_of (moves (position g)) (k + 1) count) a w b) same
       (subst (λ (z : ℤ). WalksAll (position now) e (AtLeast z) (range_of (moves (position now)) (k + 1) count) a w b) ey h))
 
-  pub root-as : (start now : Course) → now ≡ start → (e k : ℕ) (m : Move) (v : ℤ) (a b : N) (w : Ending W) → Root (position now) e k m v a w b → Root (position start) e k m v a w b
-  root-as start now same e k m v a b w h = subst (λ (g : Course). Root (position g) e k m v a w b) same h
+  pub root-as : (start now : History) → now ≡ start → (e k : ℕ) (m : Move) (v : ℤ) (a b : N) (w : Ending W) → Root (position now) e k m v a w b → Root (position start) e k m v a w b
+  root-as start now same e k m v a b w h = subst (λ (g : History). Root (position g) e k m v a w b) same h
 
   pub certificate-at : (p : Position) (d k : ℕ) (m : Move) (v : ℤ) (s : S) → Some k ≡ place_of m (moves p) →
       certificate R p d m v s ≡ go_on (walk_moves (λ n. walk R (after p n) (d - 1)) (moves p) k m v s) (finish R)
@@ -294,7 +294,7 @@ module _ {S W N : Type 0} (R : Rules S W) (V : Sight S W N) where
 
 -- ---- what the four parts show
 
-pub root-shown : (start g1 g2 g3 : Course) (d k count : ℕ) (m : Move) (v y z : ℤ) → IsInner (position start) d → slice_get (moves (position start)) k ≡ Some m → count ≡ length (moves (position start)) →
+pub root-shown : (start g1 g2 g3 : History) (d k count : ℕ) (m : Move) (v y z : ℤ) → IsInner (position start) d → slice_get (moves (position start)) k ≡ Some m → count ≡ length (moves (position start)) →
     y ≡ pos 1 -ℤ v → z ≡ neg_ℤ v → g1 ≡ start → g2 ≡ start → g3 ≡ start →
     EachKeeps (position start) (d - 1) (AtLeast y) (range_of (moves (position start)) 0 k) → Keeps (AtMost z) (value (after (position g1) m) (d - 1)) → Keeps (AtLeast z) (value (after (position g2) m) (d - 1)) →
     EachKeeps (position g3) (d - 1) (AtLeast z) (range_of (moves (position g3)) (k + 1) count) → (best (position start) d ≡ Some m) × (value (position start) d ≡ v)
@@ -303,12 +303,12 @@ root-shown start g1 g2 g3 d k count m v y z inner at all ey ez e1 e2 e3 first hi
     let e = d - 1 in
     let before : EachKeeps p e (AtLeast (pos 1 -ℤ v)) (take k (moves p)) =
     subst (λ (x : ℤ). EachKeeps p e (AtLeast x) (take k (moves p))) ey (subst (EachKeeps p e (AtLeast y)) (range-before (moves p) k) first) in
-    let above : value (after p m) e ≤ℤ neg_ℤ v = subst (λ (x : ℤ). value (after p m) e ≤ℤ x) ez (subst (λ (g : Course). value (after (position g) m) e ≤ℤ z) e1 high) in
-    let under : neg_ℤ v ≤ℤ value (after p m) e = subst (λ (x : ℤ). x ≤ℤ value (after p m) e) ez (subst (λ (g : Course). z ≤ℤ value (after (position g) m) e) e2 low) in
+    let above : value (after p m) e ≤ℤ neg_ℤ v = subst (λ (x : ℤ). value (after p m) e ≤ℤ x) ez (subst (λ (g : History). value (after (position g) m) e ≤ℤ z) e1 high) in
+    let under : neg_ℤ v ≤ℤ value (after p m) e = subst (λ (x : ℤ). x ≤ℤ value (after p m) e) ez (subst (λ (g : History). z ≤ℤ value (after (position g) m) e) e2 low) in
     let behind : EachKeeps p e (AtLeast (neg_ℤ v)) (drop (k + 1) (moves p)) =
     subst (λ (x : ℤ). EachKeeps p e (AtLeast x) (drop (k + 1) (moves p))) ez
     (subst (EachKeeps p e (AtLeast z)) (range-behind (moves p) (k + 1) count all)
-    (subst (λ (g : Course). EachKeeps (position g) e (AtLeast z) (range_of (moves (position g)) (k + 1) count)) e3 last)) in
+    (subst (λ (g : History). EachKeeps (position g) e (AtLeast z) (range_of (moves (position g)) (k + 1) count)) e3 last)) in
     best-at p d k m v inner at
     (Each-weaker (λ n. (pos 1 -ℤ v) ≤ℤ value (after p n) e) (λ n. reply_value p e n <ℤ v) (λ n h. omega (arith, ints, h)) (take k (moves p)) before)
     (omega (arith, ints, above, under))

@@ -7,7 +7,7 @@ use Rattle.hive_model.specs.declared.places.Move.{Move}
 use Rattle.hive_model.specs.declared.places.Move.TheVariants.{Pass, To}
 use Rattle.hive_model.specs.Lists.{IsOn}
 use Rattle.hive_model.specs.Places.{is_place}
-use Rattle.hive_model.specs.Courses.{is_move}
+use Rattle.hive_model.specs.Histories.{is_move}
 use Rattle.hive_model.proofs.PlaceLemmas.{same_place, is_place_itself}
 use Rattle.hive_model.specs.Positions.{Position}
 use Rattle.hive_model.specs.Legal.{moves}

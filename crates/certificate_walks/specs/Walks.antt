@@ -5,7 +5,7 @@ use Rattle.hive_model.specs.declared.places.Move.{Move}
 use Rattle.hive_model.specs.Positions.{Position}
 use Rattle.hive_model.specs.Legal.{moves, is_over}
 use Rattle.hive_model.specs.Games.{after}
-use Rattle.hive_model.specs.Courses.{is_move}
+use Rattle.hive_model.specs.Histories.{is_move}
 use Rattle.hive_model.specs.Minimax.{value}
 use Rattle.certificate_walks.specs.declared.limit.Limit.{Limit}
 use Rattle.certificate_walks.specs.declared.limit.Limit.TheVariants.{AtMost, AtLeast}

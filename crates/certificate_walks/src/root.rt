@@ -3,7 +3,7 @@
 ghost use Rattle.std.specs.Prelude.{◌≡◌, ◌-◌, ◌<◌, ◌≤◌, length, slice_get, Some, None};
 ghost use Rattle.hive_model.specs.Legal.{moves};
 ghost use Rattle.hive_model.specs.Games.{after};
-ghost use Rattle.hive_model.specs.Courses.{position};
+ghost use Rattle.hive_model.specs.Histories.{position};
 ghost use Rattle.hive_model.specs.Stack.{level_of};
 ghost use Rattle.certificate_walks.specs.Claims.{HasReplies, IsClaimOf, IsTrueOf};
 ghost use Rattle.certificate_walks.specs.Walks.{place_of, walk};
@@ -40,18 +40,18 @@ fn walk_root<G: Game, W: Walker>(
     walker: &mut W,
     stack: &mut MoveStack,
 ) -> Walked<W::Stop>
-    requires claim { IsClaimOf (G.course game.old) claim.now.depth claim.now.value }
-    requires replies { HasReplies (claim.now.depth - 1) level (G.course game.old) stack.old }
-    requires place { slice_get (moves (position (G.course game.old))) place ≡ Some claim.now.best }
+    requires claim { IsClaimOf (G.history game.old) claim.now.depth claim.now.value }
+    requires replies { HasReplies (claim.now.depth - 1) level (G.history game.old) stack.old }
+    requires place { slice_get (moves (position (G.history game.old))) place ≡ Some claim.now.best }
     ensures shown { W.is_true walker.old → result ≡ Walked.Done
-        → IsTrueOf (position (G.course game.old)) claim.now }
+        → IsTrueOf (position (G.history game.old)) claim.now }
     ensures told { Follows W.sight
         (walks.walk_moves
-        (λ m. walk W.rules (after (position (G.course game.old)) m) (claim.now.depth - 1))
-        (moves (position (G.course game.old))) place claim.now.best claim.now.value)
+        (λ m. walk W.rules (after (position (G.history game.old)) m) (claim.now.depth - 1))
+        (moves (position (G.history game.old))) place claim.now.best claim.now.value)
         (W.seen walker.old) (ending_of W.rules W.ending result) (W.seen walker.new) }
     ensures part { IsPart W.parts result walker.old walker.new }
-    ensures game { G.course game.new ≡ G.course game.old }
+    ensures game { G.history game.new ≡ G.history game.old }
     ensures stack { stack.new ≡ stack.old }
 {
     let depth = claim.depth - 1;
@@ -84,19 +84,19 @@ pub fn walk_certificate<G: Game, W: Walker>(
     walker: &mut W,
     stack: &mut MoveStack,
 ) -> Option<Walked<W::Stop>>
-    requires claim { IsClaimOf (G.course game.old) claim.now.depth claim.now.value }
+    requires claim { IsClaimOf (G.history game.old) claim.now.depth claim.now.value }
     requires room { claim.now.depth ≤ stack.old.free }
     ensures shown { W.is_true walker.old → result ≡ Some Walked.Done
-        → IsTrueOf (position (G.course game.old)) claim.now }
-    ensures told { LeadsToEnd W.rules W.sight W.ending (position (G.course game.old))
+        → IsTrueOf (position (G.history game.old)) claim.now }
+    ensures told { LeadsToEnd W.rules W.sight W.ending (position (G.history game.old))
         claim.now.depth claim.now.best claim.now.value result
         (W.seen walker.old) (W.seen walker.new) }
-    ensures illegal { place_of claim.now.best (moves (position (G.course game.old))) ≡ None
+    ensures illegal { place_of claim.now.best (moves (position (G.history game.old))) ≡ None
         → result ≡ None }
     ensures legal { result ≡ None
-        → place_of claim.now.best (moves (position (G.course game.old))) ≡ None }
+        → place_of claim.now.best (moves (position (G.history game.old))) ≡ None }
     ensures part { IsPartIf W.parts result walker.old walker.new }
-    ensures game { G.course game.new ≡ G.course game.old }
+    ensures game { G.history game.new ≡ G.history game.old }
     ensures stack { stack.new ≡ stack.old }
 {
     let level = stack.levels();

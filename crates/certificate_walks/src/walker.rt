@@ -1,7 +1,7 @@
 //! The part of a walk that takes tokens.
 
 ghost use Rattle.std.specs.Prelude.{◌≡◌, ◌↔◌, IsTrue, ⊤};
-ghost use Rattle.hive_model.specs.Courses.{position};
+ghost use Rattle.hive_model.specs.Histories.{position};
 ghost use Rattle.hive_model.specs.Minimax.{IsInner, value};
 ghost use Rattle.search_laws.specs.Laws.{IsSmall};
 ghost use Rattle.search_laws.specs.Nodes.{HasRoom};
@@ -91,26 +91,27 @@ pub trait Walker {
         least: i32,
         stack: &mut MoveStack,
     ) -> Took<Self::Stop>
-        requires inner { IsInner (position (G.course game.old)) depth }
+        requires inner { IsInner (position (G.history game.old)) depth }
         requires small { IsSmall 1000100 least }
-        requires room { HasRoom depth (G.course game.old) stack.old }
+        requires room { HasRoom depth (G.history game.old) stack.old }
         ensures shown { is_true self.old → result ≡ Took.Shown
-            → Keeps (AtLeast least) (value (position (G.course game.old)) depth) }
+            → Keeps (AtLeast least) (value (position (G.history game.old)) depth) }
         ensures true_ { is_true self.old → is_true self.new }
-        ensures told { Finds rules sight ending (position (G.course game.old)) depth least result
+        ensures told { Finds rules sight ending (position (G.history game.old)) depth least result
             (seen self.old) (seen self.new) }
         ensures part { IsFoundBy parts result self.old self.new }
-        ensures game { G.course game.new ≡ G.course game.old }
+        ensures game { G.history game.new ≡ G.history game.old }
         ensures stack { stack.new ≡ stack.old };
 
     /// Keeps that the position is worth at least `least`, with `depth` plies left.
     fn keep<G: Game>(&mut self, game: &G, depth: u32, least: i32)
         requires small { IsSmall 1000100 least }
         ensures true_ { is_true self.old
-            → Keeps (AtLeast least) (value (position (G.course game.now)) depth)
+            → Keeps (AtLeast least) (value (position (G.history game.now)) depth)
             → is_true self.new }
         ensures told { (s : Steps) → seen self.old ≡ sight.view s
-            → seen self.new ≡ sight.view (rules.keep (position (G.course game.now)) depth least s) }
+            → seen self.new
+            ≡ sight.view (rules.keep (position (G.history game.now)) depth least s) }
         ensures part { parts.goes self.old self.new };
 
     /// The view of a walk has the count of tokens taken.

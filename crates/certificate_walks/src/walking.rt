@@ -4,7 +4,7 @@ ghost use Rattle.std.specs.Prelude.{◌≡◌, ◌-◌, ◌<◌, ◌≤◌, leng
 ghost use Rattle.hive_model.specs.Legal.{moves};
 ghost use Rattle.hive_model.specs.Games.{after};
 ghost use Rattle.hive_model.specs.Minimax.{IsInner, value};
-ghost use Rattle.hive_model.specs.Courses.{position};
+ghost use Rattle.hive_model.specs.Histories.{position};
 ghost use Rattle.search_laws.specs.Laws.{IsSmall};
 ghost use Rattle.search_laws.specs.Nodes.{CanReply, HasRoom};
 ghost use Rattle.certificate_walks.specs.Claims.{HasReplies};
@@ -39,8 +39,8 @@ fn leaf_answer<S>(limit: Limit, worth: i32) -> Walked<S>
 /// stack are as before.
 fn move_at<G: Game>(game: &mut G, place: u32, stack: &mut MoveStack) -> Option<Move>
     requires { 1 ≤ stack.old.free }
-    ensures move_ { result ≡ slice_get (moves (position (G.course game.old))) place }
-    ensures game { G.course game.new ≡ G.course game.old }
+    ensures move_ { result ≡ slice_get (moves (position (G.history game.old))) place }
+    ensures game { G.history game.new ≡ G.history game.old }
     ensures stack { stack.new ≡ stack.old }
 {
     let level = stack.levels();
@@ -65,14 +65,14 @@ pub fn walk_claim<G: Game, W: Walker>(
     stack: &mut MoveStack,
 ) -> Walked<W::Stop>
     requires small { IsSmall 1000100 (number limit) }
-    requires room { HasRoom depth (G.course game.old) stack.old }
+    requires room { HasRoom depth (G.history game.old) stack.old }
     ensures shown { W.is_true walker.old → result ≡ Walked.Done
-        → Keeps limit (value (position (G.course game.old)) depth) }
+        → Keeps limit (value (position (G.history game.old)) depth) }
     ensures true_ { W.is_true walker.old → W.is_true walker.new }
-    ensures told { Follows W.sight (walk W.rules (position (G.course game.old)) depth limit)
+    ensures told { Follows W.sight (walk W.rules (position (G.history game.old)) depth limit)
         (W.seen walker.old) (ending_of W.rules W.ending result) (W.seen walker.new) }
     ensures part { IsPart W.parts result walker.old walker.new }
-    ensures game { G.course game.new ≡ G.course game.old }
+    ensures game { G.history game.new ≡ G.history game.old }
     ensures stack { stack.new ≡ stack.old }
 {
     if let Some(worth) = leaf_value(game, depth) {
@@ -97,17 +97,17 @@ fn walk_every<G: Game, W: Walker>(
     walker: &mut W,
     stack: &mut MoveStack,
 ) -> Walked<W::Stop>
-    requires inner { IsInner (position (G.course game.old)) depth }
+    requires inner { IsInner (position (G.history game.old)) depth }
     requires small { IsSmall 1000100 most }
-    requires room { HasRoom depth (G.course game.old) stack.old }
+    requires room { HasRoom depth (G.history game.old) stack.old }
     ensures shown { W.is_true walker.old → result ≡ Walked.Done
-        → Keeps (AtMost most) (value (position (G.course game.old)) depth) }
+        → Keeps (AtMost most) (value (position (G.history game.old)) depth) }
     ensures true_ { W.is_true walker.old → W.is_true walker.new }
     ensures told { Follows W.sight
-        (walk W.rules (position (G.course game.old)) depth (AtMost most))
+        (walk W.rules (position (G.history game.old)) depth (AtMost most))
         (W.seen walker.old) (ending_of W.rules W.ending result) (W.seen walker.new) }
     ensures part { IsPart W.parts result walker.old walker.new }
-    ensures game { G.course game.new ≡ G.course game.old }
+    ensures game { G.history game.new ≡ G.history game.old }
     ensures stack { stack.new ≡ stack.old }
 {
     let level = stack.levels();
@@ -129,17 +129,17 @@ fn walk_below<G: Game, W: Walker>(
     walker: &mut W,
     stack: &mut MoveStack,
 ) -> Walked<W::Stop>
-    requires inner { IsInner (position (G.course game.old)) depth }
+    requires inner { IsInner (position (G.history game.old)) depth }
     requires small { IsSmall 1000100 least }
-    requires room { HasRoom depth (G.course game.old) stack.old }
+    requires room { HasRoom depth (G.history game.old) stack.old }
     ensures shown { W.is_true walker.old → result ≡ Walked.Done
-        → Keeps (AtLeast least) (value (position (G.course game.old)) depth) }
+        → Keeps (AtLeast least) (value (position (G.history game.old)) depth) }
     ensures true_ { W.is_true walker.old → W.is_true walker.new }
     ensures told { Follows W.sight
-        (goes_below W.rules (position (G.course game.old)) depth least place)
+        (goes_below W.rules (position (G.history game.old)) depth least place)
         (W.seen walker.old) (ending_of W.rules W.ending result) (W.seen walker.new) }
     ensures part { IsPart W.parts result walker.old walker.new }
-    ensures game { G.course game.new ≡ G.course game.old }
+    ensures game { G.history game.new ≡ G.history game.old }
     ensures stack { stack.new ≡ stack.old }
 {
     let Some(m) = move_at(game, place, stack) else {
@@ -166,19 +166,19 @@ pub(crate) fn walk_moves<G: Game, W: Walker>(
     walker: &mut W,
     stack: &mut MoveStack,
 ) -> Walked<W::Stop>
-    requires replies { HasReplies depth level (G.course game.old) stack.old }
+    requires replies { HasReplies depth level (G.history game.old) stack.old }
     requires small { IsSmall 1000100 (number limit) }
-    requires before { to ≤ length (moves (position (G.course game.old))) }
+    requires before { to ≤ length (moves (position (G.history game.old))) }
     ensures shown { W.is_true walker.old → result ≡ Walked.Done
-        → EachKeeps (position (G.course game.old)) depth limit
-        (range_of (moves (position (G.course game.old))) from to) }
+        → EachKeeps (position (G.history game.old)) depth limit
+        (range_of (moves (position (G.history game.old))) from to) }
     ensures true_ { W.is_true walker.old → W.is_true walker.new }
     ensures told { Follows W.sight
-        (walk_all (λ m. walk W.rules (after (position (G.course game.old)) m) depth limit)
-        (range_of (moves (position (G.course game.old))) from to))
+        (walk_all (λ m. walk W.rules (after (position (G.history game.old)) m) depth limit)
+        (range_of (moves (position (G.history game.old))) from to))
         (W.seen walker.old) (ending_of W.rules W.ending result) (W.seen walker.new) }
     ensures part { IsPart W.parts result walker.old walker.new }
-    ensures game { G.course game.new ≡ G.course game.old }
+    ensures game { G.history game.new ≡ G.history game.old }
     ensures stack { stack.new ≡ stack.old }
 {
     for i in from..to {
@@ -201,16 +201,16 @@ pub(crate) fn walk_child<G: Game, W: Walker>(
     walker: &mut W,
     stack: &mut MoveStack,
 ) -> Walked<W::Stop>
-    requires can { CanReply m depth (G.course game.old) stack.old }
+    requires can { CanReply m depth (G.history game.old) stack.old }
     requires small { IsSmall 1000100 (number limit) }
     ensures shown { W.is_true walker.old → result ≡ Walked.Done
-        → Keeps limit (value (after (position (G.course game.old)) m) depth) }
+        → Keeps limit (value (after (position (G.history game.old)) m) depth) }
     ensures true_ { W.is_true walker.old → W.is_true walker.new }
     ensures told { Follows W.sight
-        (walk W.rules (after (position (G.course game.old)) m) depth limit)
+        (walk W.rules (after (position (G.history game.old)) m) depth limit)
         (W.seen walker.old) (ending_of W.rules W.ending result) (W.seen walker.new) }
     ensures part { IsPart W.parts result walker.old walker.new }
-    ensures game { G.course game.new ≡ G.course game.old }
+    ensures game { G.history game.new ≡ G.history game.old }
     ensures stack { stack.new ≡ stack.old }
 {
     game.play(m);

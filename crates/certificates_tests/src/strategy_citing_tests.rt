@@ -1,7 +1,7 @@
 //! Citing certificates of the opening, two plies deep: reading, checking and writing them.
 
 ghost use Rattle.std.specs.Prelude.{◌≡◌, pos};
-ghost use Rattle.hive_model.specs.Courses.{position};
+ghost use Rattle.hive_model.specs.Histories.{position};
 ghost use Rattle.hive_model.specs.Legal as rules;
 
 use certificate_citing::{LineTokens, Migrated, migrate};
@@ -23,7 +23,7 @@ const BASE: GameType = GameType {
 
 /// Whether the game is over.
 fn is_over(game: &PlainGame) -> bool
-    ensures { result ≡ rules.is_over (position game.now.course) }
+    ensures { result ≡ rules.is_over (position game.now.history) }
 {
     match game.state() {
         State::NotStarted | State::InProgress => false,

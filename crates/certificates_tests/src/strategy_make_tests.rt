@@ -1,7 +1,7 @@
 //! Certificates of the opening: what is written, and what a check answers to each claim.
 
 ghost use Rattle.std.specs.Prelude.{◌≡◌, ◌≤◌};
-ghost use Rattle.hive_model.specs.Courses.{position};
+ghost use Rattle.hive_model.specs.Histories.{position};
 ghost use Rattle.hive_model.specs.Legal as rules;
 
 use deepening::Searcher;
@@ -27,7 +27,7 @@ const TWO_PLIES: &str =
 
 /// Whether the game is over.
 fn is_over(game: &PlainGame) -> bool
-    ensures { result ≡ rules.is_over (position game.now.course) }
+    ensures { result ≡ rules.is_over (position game.now.history) }
 {
     match game.state() {
         State::NotStarted | State::InProgress => false,

@@ -1,7 +1,7 @@
 -- How a command that answers one game ends.
 use Rattle.std.proofs.Common.{◌≡◌, ◌≤◌, ℕ, List, [], ◌∷◌, length, sym, subst, inl, inr, arith}
 use Rattle.std.specs.Prelude.{Result, Ok, Err}
-use Rattle.hive_model.specs.Courses.{Course, position}
+use Rattle.hive_model.specs.Histories.{History, position}
 use Rattle.io_edge.specs.Lines.{Line, lines}
 use Rattle.hive_model.specs.Positions.{opening}
 use Rattle.hive_model.specs.Games.{replay}
@@ -27,11 +27,11 @@ asked_by_one (line ∷ []) game e = omega arith
 asked_by_one (line ∷ (other ∷ others)) game e = absurd (more_lines (game_in line) other others game e)
 
 -- the game in progress has reached the end of the one that was read
-pub end_is : (c : Course) (game : Parsed) → IsReplayOf c game → position c ≡ last_position game
+pub end_is : (c : History) (game : Parsed) → IsReplayOf c game → position c ≡ last_position game
 end_is c game end = λ j. replay (opening (end.kind j)) (end.made j)
 
 -- the input was one game, which this text answers
-pub game_run : (answers : Answers) (status : Status) (before after : Sides) (c : Course) (text : List ℕ)
+pub game_run : (answers : Answers) (status : Status) (before after : Sides) (c : History) (text : List ℕ)
     → WhereTold before.rest (λ input. (game : Parsed) × IsAsked input after.rest game × IsReplayOf c game)
     → ((game : Parsed) → IsReplayOf c game → answers game text) → WritesAnswer text status before.written after.written → GameRun answers status before after
 game_run answers status before after c text given is_answer (inl (e, same)) = subst (λ s. GameRun answers s before after) (sym e) (

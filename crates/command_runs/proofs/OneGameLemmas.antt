@@ -3,7 +3,7 @@ use Rattle.std.proofs.Common.{◌≡◌, ◌<◌, ◌≤◌, ℕ, List, [], ◌�
 use Rattle.std.specs.Prelude.{Result, Ok, Err}
 use Rattle.std.proofs.lemmas.List.{append-nil}
 use Rattle.io_edge.specs.Outside.{Told}
-use Rattle.hive_model.specs.Courses.{Course}
+use Rattle.hive_model.specs.Histories.{History}
 use Rattle.io_edge.specs.Lines.{Line, Text, TooLong as LongLine, lines}
 use Rattle.line_feed.specs.Feed.{Reading, Ends, Gives, Holds, HoldsLittle, input_limit, fresh}
 use Rattle.line_feed.specs.SoFar.{Fed}
@@ -29,12 +29,12 @@ none_given InputFull gives never = absurd never
 none_given {line = line} Memory gives any = inl (line, gives)
 
 -- the text that was given is a game, or none
-pub text_given : {G : Type 0} (course : G → Course) (r : Result G NoGame) (text last : List ℕ) → text ≡ last → {old new : Reading} {bytes : List ℕ} {rest : Told} → Gives old bytes (Text last) new rest
-    → IfOk r (λ g. Resumes (course g) (open_game (game_of text))) → IfErr r (λ e. Lacks e (open_game (game_of text)))
-    → MatchResult r (λ g. GivesGame (course g) bytes old new rest) (λ e. GivesNone e bytes old new rest)
+pub text_given : {G : Type 0} (history : G → History) (r : Result G NoGame) (text last : List ℕ) → text ≡ last → {old new : Reading} {bytes : List ℕ} {rest : Told} → Gives old bytes (Text last) new rest
+    → IfOk r (λ g. Resumes (history g) (open_game (game_of text))) → IfErr r (λ e. Lacks e (open_game (game_of text)))
+    → MatchResult r (λ g. GivesGame (history g) bytes old new rest) (λ e. GivesNone e bytes old new rest)
 unfolding game_in
-text_given course (Ok g) text last is gives plays none = (Text last, gives, subst (λ t. Resumes (course g) (open_game (game_of t))) is plays)
-text_given course (Err e) text last is gives plays none = none_given e gives (subst (λ t. Lacks e (open_game (game_of t))) is none)
+text_given history (Ok g) text last is gives plays none = (Text last, gives, subst (λ t. Resumes (history g) (open_game (game_of t))) is plays)
+text_given history (Err e) text last is gives plays none = none_given e gives (subst (λ t. Lacks e (open_game (game_of t))) is none)
 
 -- the line that was given is too long
 pub long_given : {old new : Reading} {bytes : List ℕ} {rest : Told} (e : NoGame) → Gives old bytes LongLine new rest → Says e (codes "line too long") → GivesNone e bytes old new rest
@@ -127,7 +127,7 @@ no_game_first {r0} {r1} {old} Memory is taken none = λ input told. elim none [
 ]
 
 -- a game was given before
-pub no_game_after : {r0 r1 r2 : Told} {old mid new : Reading} {b1 b2 : List ℕ} {course : Course} (e : NoGame) → old ≡ fresh → WereTaken b1 old mid r0 r1 → GivesGame course b1 old mid r1 → WereTaken b2 mid new r1 r2
+pub no_game_after : {r0 r1 r2 : Told} {old mid new : Reading} {b1 b2 : List ℕ} {history : History} (e : NoGame) → old ≡ fresh → WereTaken b1 old mid r0 r1 → GivesGame history b1 old mid r1 → WereTaken b2 mid new r1 r2
     → GoesOn e b2 mid new r2 → WhereTold r0 (λ input. IsUnanswered about_game e input r2)
 no_game_after (Bad text) is taken (line, gives, (game, plays, replay_of)) more ((line2, gives2), says) = λ input told. (
   codes "more lines",
@@ -142,8 +142,8 @@ no_game_after Memory is taken (line, gives, (game, plays, replay_of)) more (line
     few_read input (fed_line (fed_first is taken gives) more.takes gives2) more.within more.little told (omega arith)
 
 -- the input ended after a game
-pub game_alone : {r0 r1 r2 : Told} {old mid new : Reading} {b1 b2 : List ℕ} {course : Course} → old ≡ fresh → WereTaken b1 old mid r0 r1 → GivesGame course b1 old mid r1 → WereTaken b2 mid new r1 r2 → Ends mid b2 new r2
-    → WhereTold r0 (λ input. (game : Parsed) × IsAsked input r2 game × IsReplayOf course game)
+pub game_alone : {r0 r1 r2 : Told} {old mid new : Reading} {b1 b2 : List ℕ} {history : History} → old ≡ fresh → WereTaken b1 old mid r0 r1 → GivesGame history b1 old mid r1 → WereTaken b2 mid new r1 r2 → Ends mid b2 new r2
+    → WhereTold r0 (λ input. (game : Parsed) × IsAsked input r2 game × IsReplayOf history game)
 game_alone is taken (line, gives, (game, plays, replay_of)) more ends = λ input told.
     let fed = fed_first is taken gives in
     let (all, below) = fed_end input fed more.takes ends told in (

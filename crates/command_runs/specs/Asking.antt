@@ -1,7 +1,7 @@
 -- How the one game of an input is read: first its line, and then the end of the input.
 use Rattle.std.specs.Prelude.{◌≡◌, ◌≢◌, ◌⊎◌, ℕ, ◌<◌, ◌≤◌, false, List, length, codes, Result, Ok, Err}
 use Rattle.io_edge.specs.Outside.{Told}
-use Rattle.hive_model.specs.Courses.{Course, position}
+use Rattle.hive_model.specs.Histories.{History, position}
 use Rattle.hive_model.specs.Legal.{is_over}
 use Rattle.io_edge.specs.Lines.{Line}
 use Rattle.line_feed.specs.Feed.{Reading, Ends, Gives, Holds, HoldsLittle, Takes, input_limit}
@@ -16,18 +16,18 @@ use Rattle.command_runs.specs.declared.no_game.NoGame.TheVariants.{Bad, ReadFaul
 -- A game
 
 -- The game in progress has reached the end of a game that was read.
-pub record IsReplayOf (course : Course) (game : Parsed) : Type 0 where
-  pub kind : course.game_type ≡ game.game_type
-  pub made : course.made ≡ game.moves
+pub record IsReplayOf (history : History) (game : Parsed) : Type 0 where
+  pub kind : history.game_type ≡ game.game_type
+  pub made : history.made ≡ game.moves
 
 -- The game in progress is not over, and has at most 5,000 moves.
-pub record IsUnderWay (course : Course) : Type 0 where
-  pub open_ : is_over (position course) ≡ false
-  pub few : length course.made ≤ 5000
+pub record IsUnderWay (history : History) : Type 0 where
+  pub open_ : is_over (position history) ≡ false
+  pub few : length history.made ≤ 5000
 
 -- The answer is a game, and the game in progress has reached its end.
-abbrev pub Resumes : Course → Result Parsed (List ℕ) → Type 0
-Resumes course answer = (game : Parsed) × (answer ≡ Ok game) × IsReplayOf course game
+abbrev pub Resumes : History → Result Parsed (List ℕ) → Type 0
+Resumes history answer = (game : Parsed) × (answer ≡ Ok game) × IsReplayOf history game
 
 -- No game
 
@@ -65,9 +65,9 @@ abbrev pub GivesLine : List ℕ → Reading → Reading → Told → Type 0
 GivesLine bytes old new rest = (line : Line) × Gives old bytes line new rest
 
 -- The line that was given is a game, and the game in progress has reached its end.
-abbrev pub GivesGame : Course → List ℕ → Reading → Reading → Told → Type 0
-GivesGame course bytes old new rest =
-    (line : Line) × Gives old bytes line new rest × Resumes course (game_in line)
+abbrev pub GivesGame : History → List ℕ → Reading → Reading → Told → Type 0
+GivesGame history bytes old new rest =
+    (line : Line) × Gives old bytes line new rest × Resumes history (game_in line)
 
 -- The line that was given is not a game, for this reason.
 abbrev pub GivesOther : List ℕ → List ℕ → Reading → Reading → Told → Type 0

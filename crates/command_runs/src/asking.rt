@@ -2,7 +2,7 @@
 ghost use Rattle.std.specs.Prelude.{◌≡◌, ℕ, ◌+◌, ◌≤◌, List, length, Err, IfOk, IfErr, MatchResult};
 ghost use Rattle.io_edge.specs.Outside.{HasCause};
 ghost use Rattle.line_feed.specs.Feed.{Ends};
-ghost use Rattle.hive_model.specs.Courses.{position};
+ghost use Rattle.hive_model.specs.Histories.{position};
 ghost use Rattle.hive_model.specs.Games.{IsGame};
 ghost use Rattle.hive_model.specs.Legal as rules;
 ghost use Rattle.io_edge.specs.Lines.{greatest_line};
@@ -55,7 +55,7 @@ fn bad_game(alloc: Global, fault: GameFault) -> NoGame
 
 /// Whether the game is over.
 pub fn is_over<G: Game>(game: &G) -> bool
-    ensures { result ≡ rules.is_over (position (G.course game.now)) }
+    ensures { result ≡ rules.is_over (position (G.history game.now)) }
 {
     match game.state() {
         State::NotStarted | State::InProgress => false,
@@ -68,9 +68,9 @@ fn begin_again<G: Game + Drop>(alloc: Global, game: Parsed, room: u32) -> Result
     requires legal { IsGame game.game_type game.moves }
     requires few { length game.moves ≤ 5000 }
     requires little { room ≤ 64 }
-    ensures game { IfOk result (λ g. Resumes (G.course g) (if_open game)) }
-    ensures under_way { IfOk result (λ g. IsUnderWay (G.course g)) }
-    ensures room { IfOk result (λ g. room ≤ (G.course g).spare) }
+    ensures game { IfOk result (λ g. Resumes (G.history g) (if_open game)) }
+    ensures under_way { IfOk result (λ g. IsUnderWay (G.history g)) }
+    ensures room { IfOk result (λ g. room ≤ (G.history g).spare) }
     ensures none { IfErr result (λ e. Lacks e (if_open game)) }
 {
     let under_way: G = played(alloc, game.game_type, game.moves.items(), room)?;
@@ -85,9 +85,9 @@ fn begin_again<G: Game + Drop>(alloc: Global, game: Parsed, room: u32) -> Result
 fn game_of<G: Game + Drop>(alloc: Global, text: &[u8], room: u32) -> Result<G, NoGame>
     requires short { length text.now ≤ greatest_line }
     requires few { room ≤ 64 }
-    ensures game { IfOk result (λ g. Resumes (G.course g) (open_game (game_of text.now))) }
-    ensures under_way { IfOk result (λ g. IsUnderWay (G.course g)) }
-    ensures room { IfOk result (λ g. room ≤ (G.course g).spare) }
+    ensures game { IfOk result (λ g. Resumes (G.history g) (open_game (game_of text.now))) }
+    ensures under_way { IfOk result (λ g. IsUnderWay (G.history g)) }
+    ensures room { IfOk result (λ g. room ≤ (G.history g).spare) }
     ensures none { IfErr result (λ e. Lacks e (open_game (game_of text.now))) }
 {
     match read_game::<G>(alloc, text) {
@@ -108,10 +108,10 @@ pub fn first_game<S: Source, G: Game + Drop>(
     ensures given { (bytes : List ℕ)
         × WereTaken bytes reader.old reader.new (S.rest input.old) (S.rest input.new)
         × MatchResult result
-        (λ g. GivesGame (G.course g) bytes reader.old reader.new (S.rest input.new))
+        (λ g. GivesGame (G.history g) bytes reader.old reader.new (S.rest input.new))
         (λ e. GivesNone e bytes reader.old reader.new (S.rest input.new)) }
-    ensures under_way { IfOk result (λ g. IsUnderWay (G.course g)) }
-    ensures room { IfOk result (λ g. room ≤ (G.course g).spare) }
+    ensures under_way { IfOk result (λ g. IsUnderWay (G.history g)) }
+    ensures room { IfOk result (λ g. room ≤ (G.history g).spare) }
     ensures cause { HasCause (result ≡ Err NoGame.ReadFault) (S.read_faults input.old)
         (S.read_faults input.new) }
 {
@@ -157,9 +157,9 @@ pub fn read_one_game<S: Source, G: Game + Drop>(
     requires { room ≤ 64 }
     ensures game { IfOk result (λ g. WhereTold (S.rest input.old)
         (λ bytes. (game : AnyGame) × IsAsked bytes (S.rest input.new) game
-        × IsReplayOf (G.course g) game)) }
-    ensures under_way { IfOk result (λ g. IsUnderWay (G.course g)) }
-    ensures room { IfOk result (λ g. room ≤ (G.course g).spare) }
+        × IsReplayOf (G.history g) game)) }
+    ensures under_way { IfOk result (λ g. IsUnderWay (G.history g)) }
+    ensures room { IfOk result (λ g. room ≤ (G.history g).spare) }
     ensures none { IfErr result (λ e. WhereTold (S.rest input.old)
         (λ bytes. IsUnanswered about_game e bytes (S.rest input.new))) }
     ensures cause { HasCause (result ≡ Err NoGame.ReadFault) (S.read_faults input.old)

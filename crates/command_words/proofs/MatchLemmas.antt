@@ -3,7 +3,7 @@ use Rattle.std.proofs.Common.{◌≡◌, ◌∙◌, ap, sym, refl, subst, ℕ, L
 use Rattle.std.specs.Prelude.{Result, Ok, Err}
 use Rattle.option_words.specs.Options.{Item, value_at, value_of}
 use Rattle.match_core.specs.declared.setup.Level.{Level}
-use Rattle.command_words.specs.declared.care.Care.{Care}
+use Rattle.command_words.specs.declared.engine_limits.EngineLimits.{EngineLimits}
 use Rattle.command_words.specs.Matches.{Choices, IsCareOf, match_choices, match_options, match_values}
 
 pub weaker : {A : Type 0} (o : Option A) (P Q : A → Type 0) → ((a : A) → P a → Q a) → IfSome o P → IfSome o Q
@@ -36,5 +36,5 @@ both-ok (Ok a) P Q R f h k = f a h k
 both-ok (Err e) P Q R f h k = tt
 
 -- the same values ask for the same care
-pub cared : (p p' q q' : Option (List ℕ)) (level : Level) (care : Care) → p ≡ p' → q ≡ q' → IsCareOf p q level care → IsCareOf p' q' level care
+pub cared : (p p' q q' : Option (List ℕ)) (level : Level) (care : EngineLimits) → p ≡ p' → q ≡ q' → IsCareOf p q level care → IsCareOf p' q' level care
 cared p p' q q' level care e f is = subst (λ r. IsCareOf p' r level care) f (subst (λ r. IsCareOf r q level care) e is)

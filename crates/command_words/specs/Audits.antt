@@ -9,7 +9,7 @@ use Rattle.match_core.specs.declared.setup.Level.TheVariants.{Depth}
 use Rattle.option_words.specs.Options.{Gives}
 use Rattle.command_words.specs.declared.audits.AuditAsked.{AuditAsked}
 use Rattle.command_words.specs.declared.audits.AuditTexts.{AuditTexts}
-use Rattle.command_words.specs.declared.care.Care.{Care}
+use Rattle.command_words.specs.declared.engine_limits.EngineLimits.{EngineLimits}
 use Rattle.command_words.specs.Matches.{IsCareOf, IsNumberOr, IsProgram, IsRuleOf, between_spaces}
 
 -- a game type, or none if none is given
@@ -79,7 +79,7 @@ pub record ChooseAudit (options : AuditOptions) (audit : AuditAsked) : Type 0 wh
   pub plies_are : IsNumberOr options.plies 1 1000 80 audit.plies
   pub kind : IsTypeGiven options.game_type audit.game_type
   pub stop_is : IsRuleOf options.stop audit.stop
-  pub care : Care
+  pub care : EngineLimits
   pub care_is : IsCareOf options.patience options.quiet untimed care
   pub patient_is : audit.patient ≡ is_some care.limit
 
@@ -90,7 +90,7 @@ pub record AreAuditWords (words : List (String Global)) (audit : AuditAsked) : T
   pub choose : ChooseAudit options audit
 
 -- The words are `audit` and options, and ask for this care of the program.
-abbrev pub AskForAuditCare : List (String Global) → Care → Type 0
+abbrev pub AskForAuditCare : List (String Global) → EngineLimits → Type 0
 AskForAuditCare words care =
     (o : AuditOptions) × GiveAudit words o × IsCareOf o.patience o.quiet untimed care
 

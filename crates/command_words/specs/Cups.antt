@@ -5,7 +5,7 @@ use Rattle.std.specs.declared.alloc.Global.{Global}
 use Rattle.match_core.specs.declared.setup.Setup.{Setup}
 use Rattle.option_words.specs.Options.{Gives}
 use Rattle.cup.specs.Engines.{Engine}
-use Rattle.command_words.specs.declared.care.Care.{Care}
+use Rattle.command_words.specs.declared.engine_limits.EngineLimits.{EngineLimits}
 use Rattle.command_words.specs.Engines.{ArePrograms}
 pub use Rattle.command_words.specs.Engines.{engine_of, program_texts}
 use Rattle.command_words.specs.Matches.{Choices, IsCareOf, IsSetupOf}
@@ -58,7 +58,7 @@ pub record AreCupWords (words : List (String Global)) (setup : Setup) : Type 0 w
   pub setup_is : IsSetupOf (chosen options) setup
 
 -- The words ask for a cup by this setup, and for this care of its engines.
-abbrev pub AskForCupCare : List (String Global) → Setup → Care → Type 0
+abbrev pub AskForCupCare : List (String Global) → Setup → EngineLimits → Type 0
 AskForCupCare words setup care = (w : AreCupWords words setup)
     × IsCareOf w.options.patience w.options.quiet setup.level care
 

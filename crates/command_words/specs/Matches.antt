@@ -8,7 +8,7 @@ use Rattle.match_core.specs.declared.setup.Level.{Level}
 use Rattle.match_core.specs.declared.setup.Level.TheVariants.{Depth, Time}
 use Rattle.match_core.specs.declared.setup.Setup.{Setup}
 use Rattle.option_words.specs.Options.{Gives, value_at}
-use Rattle.command_words.specs.declared.care.Care.{Care}
+use Rattle.command_words.specs.declared.engine_limits.EngineLimits.{EngineLimits}
 use Rattle.command_words.specs.declared.setup.ChoiceTexts.{ChoiceTexts}
 
 -- A program and its words
@@ -80,7 +80,7 @@ IsLimitOf (Some text) level limit =
 
 -- This is the longest wait for the engines. If quiet is 1, what they write on standard error is
 -- dropped.
-pub record IsCareOf (patience quiet : Option (List ℕ)) (level : Level) (care : Care)
+pub record IsCareOf (patience quiet : Option (List ℕ)) (level : Level) (care : EngineLimits)
     : Type 0 where
   pub limit_is : IsLimitOf patience level care.limit
   pub quiet_is : IsRuleOf quiet care.quiet
@@ -118,7 +118,7 @@ pub record IsSetupOf (choices : Choices) (setup : Setup) : Type 0 where
   pub level : IsLevelOf choices.depth choices.time margin setup.level
   pub limit : IsNumberOr choices.plies 1 1000 400 setup.limit
   pub rule : IsRuleOf choices.repetition setup.repetition
-  pub care : Care
+  pub care : EngineLimits
   pub care_is : IsCareOf choices.patience choices.quiet setup.level care
 
 -- the options of a match, in the order in which their values are given
@@ -171,7 +171,7 @@ pub record AreMatchWords (words : List (String Global)) (setup : Setup) (from : 
   pub match_is : IsMatchOf choices from_text setup from
 
 -- The words ask for a match by this setup, and for this care of its engines.
-abbrev pub AskForMatchCare : List (String Global) → Setup → Bool → Care → Type 0
+abbrev pub AskForMatchCare : List (String Global) → Setup → Bool → EngineLimits → Type 0
 AskForMatchCare words setup from care = (w : AreMatchWords words setup from)
     × IsCareOf w.choices.patience w.choices.quiet setup.level care
 

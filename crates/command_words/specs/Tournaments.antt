@@ -5,7 +5,7 @@ use Rattle.std.specs.declared.alloc.Global.{Global}
 use Rattle.match_core.specs.declared.setup.Setup.{Setup}
 use Rattle.option_words.specs.Options.{Gives, value_at}
 use Rattle.cup.specs.Engines.{Engine}
-use Rattle.command_words.specs.declared.care.Care.{Care}
+use Rattle.command_words.specs.declared.engine_limits.EngineLimits.{EngineLimits}
 use Rattle.command_words.specs.Engines.{ArePrograms, engine_of, program_texts}
 use Rattle.command_words.specs.Matches.{Choices, IsCareOf, IsNumberOr, IsRuleOf, IsSetupOf}
 
@@ -75,7 +75,7 @@ pub record AreTournamentWords (words : List (String Global)) (setup : Setup) (ro
   pub resume_is : IsRuleOf options.resume resume
 
 -- The words ask for a tournament played in this way, and for this care of its engines.
-abbrev pub AskForTournamentCare : List (String Global) → Setup → ℕ → Bool → ℕ → Bool → Care
+abbrev pub AskForTournamentCare : List (String Global) → Setup → ℕ → Bool → ℕ → Bool → EngineLimits
     → Type 0
 AskForTournamentCare words setup rounds gauntlet at_once resume care =
     (w : AreTournamentWords words setup rounds gauntlet at_once resume)

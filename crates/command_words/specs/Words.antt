@@ -7,7 +7,7 @@ use Rattle.match_core.specs.Keeps.{IsSetup}
 use Rattle.option_words.specs.Options.{GiveOne, Gives}
 use Rattle.command_words.specs.declared.asked.Asked.{Asked}
 use Rattle.command_words.specs.declared.asked.Asked.TheVariants.{Session, Replay, Count, Grow, Certify, Check, Solve, Verify, Match, Cup, Book, Migrate, Audit, Tournament}
-use Rattle.command_words.specs.declared.care.Care.{Care}
+use Rattle.command_words.specs.declared.engine_limits.EngineLimits.{EngineLimits}
 use Rattle.command_words.specs.declared.name.Name.{Name}
 use Rattle.command_words.specs.declared.name.Name.TheVariants.{Uhp, Replay as ReplayName, Count as CountName, Grow as GrowName, Certify as CertifyName, Check as CheckName, Solve as SolveName, Verify as VerifyName, Match as MatchName, Cup as CupName, Book as BookName, Migrate as MigrateName, Audit as AuditName, Tournament as TournamentName}
 use Rattle.command_words.specs.Audits.{AreAuditWords, AskForAuditCare}
@@ -88,12 +88,12 @@ Words words (Tournament setup rounds gauntlet at_once resume) =
     AreTournamentWords words setup rounds gauntlet at_once resume
 
 -- There is no limit on the wait for engines, and nothing that they write is dropped.
-abbrev pub no_care : Care
+abbrev pub no_care : EngineLimits
 no_care = record { limit = None; quiet = false }
 
 -- the care for engines that the words of a match, a cup, a tournament or an audit ask for; for
 -- other words there is none
-abbrev pub CaresFor : List (String Global) → Asked → Care → Type 0
+abbrev pub CaresFor : List (String Global) → Asked → EngineLimits → Type 0
 CaresFor words Session care = care ≡ no_care
 CaresFor words (Replay repetition) care = care ≡ no_care
 CaresFor words (Count plies workers split) care = care ≡ no_care

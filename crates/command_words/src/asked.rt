@@ -25,7 +25,7 @@ ghost use Rattle.command_words.specs.Words.{
 };
 
 use crate::audits::{AuditAsked, audit_care, audit_of};
-use crate::care::Care;
+use crate::engine_limits::EngineLimits;
 use crate::counted::count_of;
 use crate::cups::{cup_care, cup_of};
 use crate::grown::growth_of;
@@ -249,7 +249,7 @@ pub fn asked_of(alloc: Global, words: &[String]) -> Result<Option<Asked>, AllocE
 }
 
 /// The care for its engines that is asked for. The only error is running out of memory.
-fn asked_care(alloc: Global, words: &[String], asked: Asked) -> Result<Care, AllocError>
+fn asked_care(alloc: Global, words: &[String], asked: Asked) -> Result<EngineLimits, AllocError>
     requires asked { Words words.now asked }
     requires range { IsInRange asked }
     ensures care { IfOk result (CaresFor words.now asked) }
@@ -274,7 +274,7 @@ fn asked_care(alloc: Global, words: &[String], asked: Asked) -> Result<Care, All
             };
             tournament_care(alloc, words, asked)
         }
-        _ => Ok(Care {
+        _ => Ok(EngineLimits {
             limit: None,
             quiet: false,
         }),
@@ -284,7 +284,7 @@ fn asked_care(alloc: Global, words: &[String], asked: Asked) -> Result<Care, All
 /// The care for engines that the words ask for. If they ask for no match, cup, tournament or audit,
 /// there is no limit on the wait for an engine. The only error is running out of memory. If the
 /// words ask for nothing, it is possible only if the first names a command that takes an option.
-pub fn care_of(alloc: Global, words: &[String]) -> Result<Care, AllocError>
+pub fn care_of(alloc: Global, words: &[String]) -> Result<EngineLimits, AllocError>
     ensures care { IfOk result (λ care. (asked : Asked) → Words words.now asked
         → CaresFor words.now asked care) }
     ensures memory { AreOfNoCommand words.now
@@ -292,7 +292,7 @@ pub fn care_of(alloc: Global, words: &[String]) -> Result<Care, AllocError>
 {
     match asked_of(alloc, words)? {
         Some(asked) => asked_care(alloc, words, asked),
-        None => Ok(Care {
+        None => Ok(EngineLimits {
             limit: None,
             quiet: false,
         }),

@@ -25,7 +25,7 @@ ghost use Rattle.command_words.specs.Audits.{
   options_in,
 };
 
-use crate::care::{Care, care_at};
+use crate::engine_limits::{EngineLimits, care_at};
 use crate::matched::is_program;
 use crate::program::words_of;
 use crate::setup::{number_or, rule_of};
@@ -162,7 +162,7 @@ pub(crate) fn audit_of(alloc: Global, words: &[String]) -> Result<Option<AuditAs
 
 /// The care for its program that the words of an audit ask for. The only error is running out of
 /// memory.
-pub(crate) fn audit_care(alloc: Global, words: &[String]) -> Result<Care, AllocError>
+pub(crate) fn audit_care(alloc: Global, words: &[String]) -> Result<EngineLimits, AllocError>
     requires { (a : AnyAudit) × AreAuditWords words.now a }
     ensures { IfOk result (λ care. AskForAuditCare words.now care) }
 {

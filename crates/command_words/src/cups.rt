@@ -4,7 +4,7 @@ ghost use Rattle.match_core.specs.declared.setup.Setup.{Setup as AnySetup};
 ghost use Rattle.match_core.specs.Keeps.{IsSetup};
 ghost use Rattle.command_words.specs.Cups.{AreCupWords, AskForCupCare, AskForEngines};
 
-use crate::care::{Care, care_at};
+use crate::engine_limits::{EngineLimits, care_at};
 use crate::engines::{are_programs, programs_in};
 use crate::setup::{ChoiceTexts, setup_of};
 use cup::Program;
@@ -48,7 +48,11 @@ pub(crate) fn cup_of(alloc: Global, words: &[String]) -> Result<Option<Setup>, A
 
 /// The care for its engines that the words of a cup ask for. The only error is running out of
 /// memory.
-pub(crate) fn cup_care(alloc: Global, words: &[String], setup: Setup) -> Result<Care, AllocError>
+pub(crate) fn cup_care(
+    alloc: Global,
+    words: &[String],
+    setup: Setup,
+) -> Result<EngineLimits, AllocError>
     requires words { AreCupWords words.now setup }
     requires setup { IsSetup setup }
     ensures { IfOk result (λ care. AskForCupCare words.now setup care) }

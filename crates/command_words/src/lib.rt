@@ -3,9 +3,9 @@
 
 mod asked;
 mod audits;
-mod care;
 mod counted;
 mod cups;
+mod engine_limits;
 mod engines;
 mod grown;
 mod laws;
@@ -19,7 +19,7 @@ mod tournaments;
 
 pub use asked::{Asked, asked_of, care_of};
 pub use audits::{AuditAsked, audited_of};
-pub use care::Care;
+pub use engine_limits::EngineLimits;
 pub use cups::engines_of;
 pub use laws::words_have_one_answer;
 pub use matched::{Programs, programs_of};

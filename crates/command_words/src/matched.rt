@@ -26,7 +26,7 @@ ghost use Rattle.command_words.specs.Matches.{
   match_choices,
 };
 
-use crate::care::{Care, care_at};
+use crate::engine_limits::{EngineLimits, care_at};
 use crate::program::{begins_words, words_of};
 use crate::setup::{ChoiceTexts, rule_of, setup_of};
 use match_core::Setup;
@@ -129,7 +129,7 @@ pub(crate) fn match_care(
     words: &[String],
     setup: Setup,
     from: bool,
-) -> Result<Care, AllocError>
+) -> Result<EngineLimits, AllocError>
     requires words { AreMatchWords words.now setup from }
     requires setup { IsSetup setup }
     ensures { IfOk result (λ care. AskForMatchCare words.now setup from care) }

@@ -12,7 +12,7 @@ ghost use Rattle.command_words.specs.Matches.{
   choices_of,
 };
 
-use crate::care::care_at;
+use crate::engine_limits::care_at;
 use hive_model::GameType;
 use match_core::{Level, Setup};
 use move_text::{read_number, read_time, read_type};

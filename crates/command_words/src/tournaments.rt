@@ -11,7 +11,7 @@ ghost use Rattle.command_words.specs.Tournaments.{
   tournament_choices,
 };
 
-use crate::care::{Care, care_at};
+use crate::engine_limits::{EngineLimits, care_at};
 use crate::engines::{are_programs, programs_in};
 use crate::setup::{ChoiceTexts, number_or, rule_of, setup_of};
 use cup::Program;
@@ -134,7 +134,7 @@ pub(crate) fn tournament_care(
     alloc: Global,
     words: &[String],
     asked: TournamentAsked,
-) -> Result<Care, AllocError>
+) -> Result<EngineLimits, AllocError>
     requires words { AreTournamentWords words.now asked.setup asked.rounds asked.gauntlet
         asked.at_once asked.resume }
     requires setup { IsSetup asked.setup }

@@ -2,7 +2,7 @@
 use Rattle.std.proofs.Common.{◌≡◌, ◌≤◌, ◌<◌, ℕ, zero, suc, ◌+◌, ◌-◌, List, [], ◌∷◌, ◌++◌, length, take, ap, sym, ◌∙◌, subst, arith, add-zero, append_assoc, length-append}
 use Rattle.std.proofs.lemmas.List.{append-nil, take-append-le}
 use Rattle.io_edge.specs.Outside.{Told, behind}
-use Rattle.hive_model.specs.Courses.{Course, position}
+use Rattle.hive_model.specs.Histories.{History, position}
 use Rattle.hive_model.specs.Minimax.{lines as lines_of_play}
 use Rattle.hive_model.specs.Positions.{Position}
 use Rattle.game_text.specs.declared.parsed.Parsed.{Parsed}
@@ -67,7 +67,7 @@ count_cut p n plies lists line w0 w1 w2 low high is count before (k, less, wrote
 -- The run
 
 -- the input was one game, and its counts were written
-pub counts_run : (plies : ℕ) (status : Status) (before after : Sides) (c : Course) → WhereTold before.rest (λ input. (game : Parsed) × IsAsked input after.rest game × IsReplayOf c game)
+pub counts_run : (plies : ℕ) (status : Status) (before after : Sides) (c : History) → WhereTold before.rest (λ input. (game : Parsed) × IsAsked input after.rest game × IsReplayOf c game)
     → WritesAnswer (count_text (position c) plies) status before.written after.written → CountRun plies status before after
 counts_run plies status before after c given told =
     game_run (counts_of plies) status before after c (count_text (position c) plies) given (λ game end. ap (λ p. count_text p plies) (end_is c game end)) told

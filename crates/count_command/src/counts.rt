@@ -2,7 +2,7 @@
 ghost use Rattle.std.specs.Prelude.{◌≡◌, ℕ, ◌<◌, ◌≤◌, false, length, take};
 ghost use Rattle.std.specs.Bool.{OnTrue, OnFalse};
 ghost use Rattle.io_edge.specs.Outside.{HasCause, behind};
-ghost use Rattle.hive_model.specs.Courses.{position};
+ghost use Rattle.hive_model.specs.Histories.{position};
 ghost use Rattle.command_runs.specs.Answered.{WritesAnswer};
 ghost use Rattle.command_runs.specs.Runs.{RunsAs, side_of};
 ghost use Rattle.count_command.specs.Count.{CountRun, count_line_of, count_text};
@@ -40,14 +40,14 @@ fn write_counts<K: Sink, G: Game>(
 ) -> bool
     requires some { 1 ≤ plies }
     requires few { plies ≤ 8 }
-    requires spare { plies ≤ (G.course game.old).spare }
+    requires spare { plies ≤ (G.history game.old).spare }
     requires room { plies ≤ stack.old.free }
     ensures all { OnTrue result (K.written output.new
-        ≡ behind (K.written output.old) (count_text (position (G.course game.old)) plies)) }
+        ≡ behind (K.written output.old) (count_text (position (G.history game.old)) plies)) }
     ensures part { OnFalse result ((n : ℕ)
-        × (n < length (count_text (position (G.course game.old)) plies))
+        × (n < length (count_text (position (G.history game.old)) plies))
         × (K.written output.new ≡ behind (K.written output.old)
-        (take n (count_text (position (G.course game.old)) plies)))) }
+        (take n (count_text (position (G.history game.old)) plies)))) }
     ensures cause { HasCause (result ≡ false) (K.write_faults output.old)
         (K.write_faults output.new) }
 {
@@ -69,8 +69,8 @@ fn tell_counts<K: Sink, G: Game + Drop>(
 ) -> Status
     requires some { 1 ≤ plies }
     requires few { plies ≤ 8 }
-    requires spare { plies ≤ (G.course game).spare }
-    ensures told { WritesAnswer (count_text (position (G.course game)) plies) result
+    requires spare { plies ≤ (G.history game).spare }
+    ensures told { WritesAnswer (count_text (position (G.history game)) plies) result
         (K.written output.old) (K.written output.new) }
     ensures cause { HasCause (result ≡ Status.WriteFault) (K.write_faults output.old)
         (K.write_faults output.new) }

@@ -2,7 +2,7 @@
 ghost use Rattle.std.specs.Prelude.{◌≡◌, ◌++◌, ◌+◌, ◌≤◌, IfOk, OnOk, length};
 ghost use Rattle.hive_model.specs.Lists.{IsOn};
 ghost use Rattle.hive_model.specs.Legal.{moves};
-ghost use Rattle.hive_model.specs.Courses.{position};
+ghost use Rattle.hive_model.specs.Histories.{position};
 ghost use Rattle.io_edge.specs.Outside.{HasCause};
 ghost use Rattle.command_runs.specs.Runs.{RunsAs, side_of};
 ghost use Rattle.count_command.specs.Parts.{PartRun, IsPartText, TellsParts, part_line};
@@ -23,11 +23,11 @@ fn push_part<G: Game + Drop>(
     class: &MoveClass,
     text: &mut ReplyText,
 ) -> Result<(), AllocError>
-    requires legal { IsOn (moves (position (G.course game.old))) class.now.moved }
-    requires spare { 1 ≤ (G.course game.old).spare }
+    requires legal { IsOn (moves (position (G.history game.old))) class.now.moved }
+    requires spare { 1 ≤ (G.history game.old).spare }
     ensures written { OnOk result (text.new ≡ text.old
-        ++ part_line (G.course game.old).game_type (G.course game.old).made class.now) }
-    ensures game { G.course game.new ≡ G.course game.old }
+        ++ part_line (G.history game.old).game_type (G.history game.old).made class.now) }
+    ensures game { G.history game.new ≡ G.history game.old }
 {
     let mut buffer = Buffer::new();
     text.push_all(buffer.format(class.weight).as_bytes())?;
@@ -41,8 +41,8 @@ fn push_part<G: Game + Drop>(
 
 /// The lines of all classes of the legal moves of a game.
 fn parts_text<G: Game + Drop>(alloc: Global, mut game: G) -> Result<ReplyText, AllocError>
-    requires { 1 ≤ (G.course game).spare }
-    ensures { IfOk result (IsPartText (G.course game).game_type (G.course game).made) }
+    requires { 1 ≤ (G.history game).spare }
+    ensures { IfOk result (IsPartText (G.history game).game_type (G.history game).made) }
 {
     let classes = classes_of(alloc, &mut game)?;
     let mut text = ReplyText::new(alloc);
@@ -54,8 +54,8 @@ fn parts_text<G: Game + Drop>(alloc: Global, mut game: G) -> Result<ReplyText, A
 
 /// Writes the parts of the counts of a game.
 fn tell_parts<K: Sink, G: Game + Drop>(alloc: Global, game: G, output: &mut K) -> Status
-    requires { 1 ≤ (G.course game).spare }
-    ensures told { TellsParts (G.course game).game_type (G.course game).made result
+    requires { 1 ≤ (G.history game).spare }
+    ensures told { TellsParts (G.history game).game_type (G.history game).made result
         (K.written output.old) (K.written output.new) }
     ensures cause { HasCause (result ≡ Status.WriteFault) (K.write_faults output.old)
         (K.write_faults output.new) }

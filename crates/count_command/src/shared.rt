@@ -2,7 +2,7 @@
 ghost use Rattle.std.specs.Prelude.{◌≡◌, ℕ, ◌<◌, ◌≤◌, false, length, take};
 ghost use Rattle.std.specs.Bool.{OnTrue, OnFalse};
 ghost use Rattle.io_edge.specs.Outside.{HasCause, behind};
-ghost use Rattle.hive_model.specs.Courses.{position};
+ghost use Rattle.hive_model.specs.Histories.{position};
 ghost use Rattle.command_runs.specs.Answered.{WritesAnswer};
 ghost use Rattle.command_runs.specs.Runs.{RunsAs, side_of};
 ghost use Rattle.count_command.specs.Count.{CountRun, count_text};
@@ -53,9 +53,9 @@ fn tell_shared<R: Threads + Sync, K: Sink, G: Game + Send + Drop>(
 ) -> Status
     requires some { 1 ≤ plies }
     requires few { plies ≤ 8 }
-    requires short { length (G.course game).made ≤ 5000 }
-    requires spare { plies ≤ (G.course game).spare }
-    ensures told { WritesAnswer (count_text (position (G.course game)) plies) result
+    requires short { length (G.history game).made ≤ 5000 }
+    requires spare { plies ≤ (G.history game).spare }
+    ensures told { WritesAnswer (count_text (position (G.history game)) plies) result
         (K.written output.old) (K.written output.new) }
     ensures cause { HasCause (result ≡ Status.WriteFault) (K.write_faults output.old)
         (K.write_faults output.new) }

@@ -15,11 +15,11 @@ use Rattle.hive_model.specs.Positions.{Position, IsSound}
 use Rattle.hive_model.specs.Legal.{moves}
 use Rattle.hive_model.specs.Games.{IsGame, after}
 use Rattle.hive_model.specs.Boards.{StandsWithin}
-use Rattle.hive_model.specs.Courses.{Course, position, with_move}
+use Rattle.hive_model.specs.Histories.{History, position, with_move}
 use Rattle.hive_model.specs.Keys.{KeyParts, key}
 use Rattle.hive_model.specs.Minimax.{lines}
 use Rattle.rule_laws.proofs.Games.{games_sound}
-use Rattle.search_laws.proofs.CourseLaws.{position-with_move}
+use Rattle.search_laws.proofs.HistoryLaws.{position-with_move}
 use Rattle.hive_model.specs.declared.places.Place.{Place}
 use Rattle.symmetry.specs.Shifts.{IsShift}
 use Rattle.symmetry.proofs.LineLaws.{lines_alike}
@@ -28,14 +28,14 @@ use Rattle.count_share.specs.declared.classes.MoveClass.{MoveClass}
 use Rattle.count_share.specs.Classes.{AreAlike, AreClasses, HasOneMore, IsClass, IsCovered, lines_by, lines_of}
 
 -- the position after a move that a game goes on with is sound, and its pieces are near
-after-sound : (game : Course) (m : Move) → IsGame game.game_type (with_move game m).made → length (with_move game m).made ≤ 9000
+after-sound : (game : History) (m : Move) → IsGame game.game_type (with_move game m).made → length (with_move game m).made ≤ 9000
     → IsSound (after (position game) m) × StandsWithin (length (with_move game m).made) (after (position game) m).board
 after-sound game m goes low =
     let sound = games_sound game.game_type (with_move game m).made goes low in
     subst (λ p. IsSound p × StandsWithin (length (with_move game m).made) p.board) (position-with_move game m) sound
 
 -- two moves after which the positions are alike are followed by as many lists
-alike-lines : (game : Course) (m o : Move) (k : ℕ) → IsGame game.game_type (with_move game m).made → IsGame game.game_type (with_move game o).made
+alike-lines : (game : History) (m o : Move) (k : ℕ) → IsGame game.game_type (with_move game m).made → IsGame game.game_type (with_move game o).made
     → length (with_move game m).made ≡ k → length (with_move game o).made ≡ k → k ≤ 5064 → AreAlike (key (after (position game) m)) (key (after (position game) o))
     → (n : ℕ) → n < 8 → lines (after (position game) m) n ≡ lines (after (position game) o) n
 alike-lines game m o k first second long longer short alike n low =
@@ -87,13 +87,13 @@ set-lines p n i cs c d low is same more =
 -- The classes of the first moves
 
 -- classes of the first i moves of a game
-pub record AreFirst (game : Course) (i : ℕ) (cs : List MoveClass) : Type 0 where
+pub record AreFirst (game : History) (i : ℕ) (cs : List MoveClass) : Type 0 where
   pub classes : All (IsClass game) cs
   pub counts : (n : ℕ) → n < 8 → CountsTo (position game) (n + 1) i (lines_of (position game) n cs)
   pub weights : All (λ c. c.weight ≤ i) cs
   pub covers : (j : ℕ) (m : Move) → j < i → slice_get (moves (position game)) j ≡ Some m → IsCovered (position game) cs m
 
-pub first-none : (game : Course) → AreFirst game 0 []
+pub first-none : (game : History) → AreFirst game 0 []
 first-none game = record {
   classes = All-nil (IsClass game);
   counts = λ n low. count-begin (position game) (n + 1) (omega arith);
@@ -109,7 +109,7 @@ at-on (x ∷ ms) m (inr rest) = let (j, here) = at-on ms m rest in (suc j, here)
 below : (j i : ℕ) → j < i + 1 → (j < i) ⊎ (j ≡ i)
 below j i low = elim (cases_eq j i) [ inl same ↦ inr same | inr other ↦ inl (omega (arith, low, other)) ]
 
-pub first-more : (game : Course) (i : ℕ) (m : Move) (cs ds : List MoveClass) → slice_get (moves (position game)) i ≡ Some m → AreFirst game i cs → HasOneMore game m cs ds → AreFirst game (i + 1) ds
+pub first-more : (game : History) (i : ℕ) (m : Move) (cs ds : List MoveClass) → slice_get (moves (position game)) i ≡ Some m → AreFirst game i cs → HasOneMore game m cs ds → AreFirst game (i + 1) ds
 first-more game i m cs ds here so more = record {
   classes = more.classes so.classes;
   counts = λ n low.
@@ -123,7 +123,7 @@ first-more game i m cs ds here so more = record {
   ];
 }
 
-pub first-all : (game : Course) (i : ℕ) (cs : List MoveClass) → length (moves (position game)) ≤ i → AreFirst game i cs → AreClasses (position game) cs
+pub first-all : (game : History) (i : ℕ) (cs : List MoveClass) → length (moves (position game)) ≤ i → AreFirst game i cs → AreClasses (position game) cs
 first-all game i cs all so = record {
   legal = λ k d h. (so.classes k d h).legal;
   keyed = λ k d h. (so.classes k d h).keyed;
@@ -139,7 +139,7 @@ first-all game i cs all so = record {
 }
 
 -- The key of a move is alike to that of a class, which has one move more then.
-pub one-more-in : (game : Course) (m again : Move) (k : KeyParts) (cs slice : List MoveClass) (i : ℕ) (c : MoveClass) → again ≡ m → k ≡ key (after (position game) again)
+pub one-more-in : (game : History) (m again : Move) (k : KeyParts) (cs slice : List MoveClass) (i : ℕ) (c : MoveClass) → again ≡ m → k ≡ key (after (position game) again)
     → IsGame game.game_type (with_move game again).made → length game.made + 1 ≤ 5064 → slice ≡ cs → i < length slice → ((c : MoveClass) → slice_get slice i ≡ Some c → AreAlike c.key k)
     → c ≡ get_or cs i c → HasOneMore game m cs (slice_set cs i (record { moved = c.moved; weight = c.weight + 1; key = c.key }))
 one-more-in game m again k cs slice i c same keyed goes short lent within like is =
@@ -176,7 +176,7 @@ pub listed-root : (s old : Levels) (ms : List Move) → s ≡ with_level old ms 
 listed-root s old ms is none = ap (λ t. level_of t 0) is ∙ ap (λ ls. slice_index_or (ls ++ ms ∷ []) 0 []) none
 
 -- A move makes a class of its own.
-pub one-more-own : (game : Course) (m again : Move) (k : KeyParts) (cs ds : List MoveClass) → again ≡ m → k ≡ key (after (position game) again) → IsOn (moves (position game)) m
+pub one-more-own : (game : History) (m again : Move) (k : KeyParts) (cs ds : List MoveClass) → again ≡ m → k ≡ key (after (position game) again) → IsOn (moves (position game)) m
     → IsGame game.game_type (with_move game again).made → ds ≡ cs ++ (record { moved = m; weight = 1; key = k }) ∷ [] → HasOneMore game m cs ds
 one-more-own game m again k cs ds same keyed legal goes is =
     let d : MoveClass = record { moved = m; weight = 1; key = k } in

@@ -9,7 +9,7 @@ use Rattle.hive_model.specs.Boards.{IsBoard}
 use Rattle.hive_model.specs.Lists.{IsOn}
 use Rattle.hive_model.specs.Legal.{moves}
 use Rattle.hive_model.specs.Positions.{Position}
-use Rattle.hive_model.specs.Courses.{Course, position}
+use Rattle.hive_model.specs.Histories.{History, position}
 use Rattle.hive_model.specs.Minimax.{lines}
 use Rattle.plain_search.proofs.FewMoves.{board-few, lines-fit}
 use Rattle.count_share.specs.declared.classes.MoveClass.{MoveClass}
@@ -51,8 +51,8 @@ deal-members p plies ss i old new c cs j low is less here are all takes =
     let was : IsMember p plies old = subst (IsMember p plies) (sym is) (all i old low) in
     let legal : IsOn (moves p) c.moved = subst (λ (k : MoveClass). IsOn (moves p) k.moved) (sym here) (are.legal j c less) in
     All-set (IsMember p plies) ss i new (record {
-      at = ap position takes.course ∙ was.at;
-      spare = subst (λ g. plies ≤ g.spare) (sym takes.course) was.spare;
+      at = ap position takes.history ∙ was.at;
+      spare = subst (λ g. plies ≤ g.spare) (sym takes.history) was.spare;
       free = subst (λ n. plies ≤ n) (sym takes.free) was.free;
       legal = subst (All (λ (k : MoveClass). IsOn (moves p) k.moved)) (sym takes.classes) (All-push (λ (k : MoveClass). IsOn (moves p) k.moved) old.classes c was.legal legal);
     }) all
@@ -82,16 +82,16 @@ counted-sum n (s ∷ ss) (t ∷ ts) all =
     let rest = counted-sum n ss ts all.1 in
     let here = all.0.total in
     let one = sum_by-cons (λ (s : Share). s.total) t ts in
-    let two = sum_by-cons (λ (s : Share). lines_of (position s.course) (n - 1) s.classes) s ss in
+    let two = sum_by-cons (λ (s : Share). lines_of (position s.history) (n - 1) s.classes) s ss in
     omega (arith, rest, here, one, two)
 
 -- members count at the position of the team
 counted-here : (p : Position) (n plies : ℕ) (ss : List Share) → All (IsMember p plies) ss → lines_counted n ss ≡ lines_shared p (n - 1) ss
 counted-here p n plies [] all = refl
 counted-here p n plies (s ∷ ss) all =
-    let here : lines_of (position s.course) (n - 1) s.classes ≡ lines_of p (n - 1) s.classes = ap (λ q. lines_of q (n - 1) s.classes) (All-head (IsMember p plies) s ss all).at in
+    let here : lines_of (position s.history) (n - 1) s.classes ≡ lines_of p (n - 1) s.classes = ap (λ q. lines_of q (n - 1) s.classes) (All-head (IsMember p plies) s ss all).at in
     let rest = counted-here p n plies ss (All-tail (IsMember p plies) s ss all) in
-    let one = sum_by-cons (λ (s : Share). lines_of (position s.course) (n - 1) s.classes) s ss in
+    let one = sum_by-cons (λ (s : Share). lines_of (position s.history) (n - 1) s.classes) s ss in
     let two = sum_by-cons (λ (s : Share). lines_of p (n - 1) s.classes) s ss in
     omega (arith, here, rest, one, two)
 
@@ -112,7 +112,7 @@ dealt-can p n plies ss some few within board dealt k d h =
     let s = get_or ss k d in
     let is : IsMember p plies s = dealt.members k d h in
     let fits = dealt-fit p n plies ss some few board dealt in
-    let part = get_or-le-sum_by (λ (s : Share). lines_of (position s.course) (n - 1) s.classes) ss k d h in
+    let part = get_or-le-sum_by (λ (s : Share). lines_of (position s.history) (n - 1) s.classes) ss k d h in
     record {
       some = some;
       few = few;
@@ -125,8 +125,8 @@ dealt-can p n plies ss some few within board dealt k d h =
 -- and are as many members as before
 counted-member : (p : Position) (n plies : ℕ) (s t : Share) → IsMember p plies s → HasCounted n s t → IsMember p plies t
 counted-member p n plies s t is did = record {
-  at = ap position did.course ∙ is.at;
-  spare = subst (λ g. plies ≤ g.spare) (sym did.course) is.spare;
+  at = ap position did.history ∙ is.at;
+  spare = subst (λ g. plies ≤ g.spare) (sym did.history) is.spare;
   free = subst (λ n. plies ≤ n) (sym did.free) is.free;
   legal = subst (All (λ (c : MoveClass). IsOn (moves p) c.moved)) (sym did.classes) is.legal;
 }
@@ -165,8 +165,8 @@ counted-many n (s ∷ ss) (t ∷ ts) did = ap suc (counted-many n ss ts did.1)
 -- Lent for a while
 
 -- an idle worker is a member
-pub idle-member : (p : Position) (plies : ℕ) (s : Share) (course : Course) → position course ≡ p → plies ≤ course.spare → s ≡ idle course plies → IsMember p plies s
-idle-member p plies s course at room is = subst (IsMember p plies) (sym is) (record {
+pub idle-member : (p : Position) (plies : ℕ) (s : Share) (history : History) → position history ≡ p → plies ≤ history.spare → s ≡ idle history plies → IsMember p plies s
+idle-member p plies s history at room is = subst (IsMember p plies) (sym is) (record {
   at = at;
   spare = room;
   free = omega arith;

@@ -8,7 +8,7 @@ use Rattle.hive_model.specs.Lists.{IsOn}
 use Rattle.hive_model.specs.Positions.{Position}
 use Rattle.hive_model.specs.Legal.{moves}
 use Rattle.hive_model.specs.Games.{IsGame, after}
-use Rattle.hive_model.specs.Courses.{Course, position, with_move}
+use Rattle.hive_model.specs.Histories.{History, position, with_move}
 use Rattle.hive_model.specs.Keys.{KeyParts, key}
 use Rattle.hive_model.specs.Minimax.{lines}
 use Rattle.symmetry.specs.Alike.{Alike}
@@ -47,13 +47,13 @@ pub record AreClasses (p : Position) (cs : List MoveClass) : Type 0 where
 
 -- A class of the legal moves of a game: its move is legal, and its key that of the position after
 -- the move.
-pub record IsClass (game : Course) (c : MoveClass) : Type 0 where
+pub record IsClass (game : History) (c : MoveClass) : Type 0 where
   pub legal : IsOn (moves (position game)) c.moved
   pub goes_on : IsGame game.game_type (with_move game c.moved).made
   pub keyed : c.key ≡ key (after (position game) c.moved)
 
 -- One more move was added to the classes.
-pub record HasOneMore (game : Course) (m : Move) (before now : List MoveClass) : Type 0 where
+pub record HasOneMore (game : History) (m : Move) (before now : List MoveClass) : Type 0 where
   pub classes : All (IsClass game) before → All (IsClass game) now
   pub counts : All (IsClass game) before → (n : ℕ) → n < 8
       → lines_of (position game) n now

@@ -21,7 +21,7 @@ ghost use Rattle.std.specs.List.{All};
 ghost use Rattle.hive_model.specs.Lists.{IsOn};
 ghost use Rattle.hive_model.specs.Legal.{moves};
 ghost use Rattle.hive_model.specs.Games.{IsGame, after};
-ghost use Rattle.hive_model.specs.Courses.{position, with_move};
+ghost use Rattle.hive_model.specs.Histories.{position, with_move};
 ghost use Rattle.hive_model.specs.Keys.{key};
 ghost use Rattle.count_share.specs.Classes.{
   AreAlike,
@@ -70,15 +70,16 @@ fn class_like(classes: &[MoveClass], key: &Key) -> Option<usize>
 
 /// The key of the position after a legal move. The game does not change.
 fn key_after<G: Game>(game: &mut G, m: Move) -> Key
-    requires legal { IsOn (moves (position (G.course game.old))) m }
-    requires spare { 1 ≤ (G.course game.old).spare }
-    ensures key { result ≡ key (after (position (G.course game.old)) m) }
-    ensures goes_on { IsGame (G.course game.old).game_type (with_move (G.course game.old) m).made }
-    ensures short { length (G.course game.old).made + 1 ≤ 5064 }
-    ensures game { G.course game.new ≡ G.course game.old }
+    requires legal { IsOn (moves (position (G.history game.old))) m }
+    requires spare { 1 ≤ (G.history game.old).spare }
+    ensures key { result ≡ key (after (position (G.history game.old)) m) }
+    ensures goes_on
+        { IsGame (G.history game.old).game_type (with_move (G.history game.old) m).made }
+    ensures short { length (G.history game.old).made + 1 ≤ 5064 }
+    ensures game { G.history game.new ≡ G.history game.old }
 {
     game.play(m);
-    game.is_sound();
+    game.lemma_sound();
     let _few = game.plies();
     let key = game.key();
     game.undo();
@@ -88,12 +89,12 @@ fn key_after<G: Game>(game: &mut G, m: Move) -> Key
 /// Adds a move to its class, or as a class of its own if the position after it is alike to no
 /// earlier one.
 fn add_move<G: Game>(game: &mut G, m: Move, classes: &mut Vec<MoveClass>) -> Result<(), AllocError>
-    requires legal { IsOn (moves (position (G.course game.old))) m }
-    requires spare { 1 ≤ (G.course game.old).spare }
+    requires legal { IsOn (moves (position (G.history game.old))) m }
+    requires spare { 1 ≤ (G.history game.old).spare }
     requires few { All (λ c. c.weight < 2 ^ 32 - 1) classes.old.items }
-    ensures more { OnOk result (HasOneMore (G.course game.old) m classes.old.items
+    ensures more { OnOk result (HasOneMore (G.history game.old) m classes.old.items
         classes.new.items) }
-    ensures game { G.course game.new ≡ G.course game.old }
+    ensures game { G.history game.new ≡ G.history game.old }
 {
     let key = key_after(game, m.again());
     if let Some(place) = class_like(classes, &key) {
@@ -111,9 +112,9 @@ fn add_move<G: Game>(game: &mut G, m: Move, classes: &mut Vec<MoveClass>) -> Res
 /// The classes of the legal moves of a game, in the order of their first moves. The game does not
 /// change. The only error is that memory runs out.
 pub fn classes_of<G: Game>(alloc: Global, game: &mut G) -> Result<Vec<MoveClass>, AllocError>
-    requires { 1 ≤ (G.course game.old).spare }
-    ensures classes { IfOk result (λ cs. AreClasses (position (G.course game.old)) cs.items) }
-    ensures game { G.course game.new ≡ G.course game.old }
+    requires { 1 ≤ (G.history game.old).spare }
+    ensures classes { IfOk result (λ cs. AreClasses (position (G.history game.old)) cs.items) }
+    ensures game { G.history game.new ≡ G.history game.old }
 {
     let mut root = MoveStack::new(alloc, 1)?;
     game.list(&mut root);

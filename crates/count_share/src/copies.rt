@@ -1,7 +1,7 @@
 //! Another game at the position of a game.
 
 ghost use Rattle.std.specs.Prelude.{◌≡◌, ◌+◌, ◌≤◌, IfOk, length};
-ghost use Rattle.hive_model.specs.Courses.{position, most_plies};
+ghost use Rattle.hive_model.specs.Histories.{position, most_plies};
 
 use game_text::played;
 use hive_model::Game;
@@ -9,11 +9,11 @@ use std::alloc::{AllocError, Global};
 
 /// A game of the same moves, with room for this many more plies.
 pub(crate) fn same_game<G: Game + Drop>(alloc: Global, game: &G, room: u32) -> Result<G, AllocError>
-    requires { length (G.course game.now).made + room ≤ most_plies }
-    ensures position { IfOk result (λ g. position (G.course g) ≡ position (G.course game.now)) }
-    ensures room { IfOk result (λ g. room ≤ (G.course g).spare) }
+    requires { length (G.history game.now).made + room ≤ most_plies }
+    ensures position { IfOk result (λ g. position (G.history g) ≡ position (G.history game.now)) }
+    ensures room { IfOk result (λ g. room ≤ (G.history g).spare) }
 {
-    game.is_sound();
+    game.lemma_sound();
     let mut moves = Vec::new(alloc);
     for i in 0..game.plies() {
         moves.push(game.move_at(i))?;

@@ -3,7 +3,7 @@
 ghost use Rattle.std.specs.Prelude.{◌≡◌, ◌+◌, ◌<◌, ◌≤◌, IfOk, OnOk, length};
 ghost use Rattle.std.specs.List.{All};
 ghost use Rattle.hive_model.specs.Positions.{Position as AnyPosition};
-ghost use Rattle.hive_model.specs.Courses.{position};
+ghost use Rattle.hive_model.specs.Histories.{position};
 ghost use Rattle.count_share.specs.Classes.{AreClasses};
 ghost use Rattle.count_share.specs.Shares.{AreDealt, AreIdle};
 
@@ -23,8 +23,8 @@ fn idle_workers<G: Game + Drop>(
 ) -> Result<Vec<CountWorker<G>>, AllocError>
     requires some { 1 ≤ plies }
     requires few { plies ≤ 8 }
-    requires short { length (G.course game.now).made ≤ 5000 }
-    ensures idle { IfOk result (λ ws. AreIdle (position (G.course game.now)) plies ws.items) }
+    requires short { length (G.history game.now).made ≤ 5000 }
+    ensures idle { IfOk result (λ ws. AreIdle (position (G.history game.now)) plies ws.items) }
     ensures count { IfOk result (λ ws. length ws.items ≡ count) }
 {
     let mut workers = Vec::new(alloc);
@@ -63,11 +63,11 @@ pub(crate) fn dealt<G: Game + Drop>(
 ) -> Result<Vec<CountWorker<G>>, AllocError>
     requires some { 1 ≤ plies }
     requires few { plies ≤ 8 }
-    requires short { length (G.course game.old).made ≤ 5000 }
-    requires spare { plies ≤ (G.course game.old).spare }
+    requires short { length (G.history game.old).made ≤ 5000 }
+    requires spare { plies ≤ (G.history game.old).spare }
     requires workers { 1 ≤ count }
-    ensures dealt { IfOk result (λ ws. AreDealt (position (G.course game.old)) plies ws.items) }
-    ensures game { G.course game.new ≡ G.course game.old }
+    ensures dealt { IfOk result (λ ws. AreDealt (position (G.history game.old)) plies ws.items) }
+    ensures game { G.history game.new ≡ G.history game.old }
 {
     let classes = classes_of(alloc, game)?;
     let mut workers = idle_workers(alloc, game, plies, room, count)?;

@@ -2,7 +2,7 @@
 
 ghost use Rattle.std.specs.Prelude.{◌≡◌, ◌^◌, ◌<◌, ◌≤◌, IfOk, length};
 ghost use Rattle.std.specs.List.{All, sum_by};
-ghost use Rattle.hive_model.specs.Courses.{position};
+ghost use Rattle.hive_model.specs.Histories.{position};
 ghost use Rattle.hive_model.specs.Minimax.{lines};
 ghost use Rattle.count_share.specs.Shares.{Share as AnyShare};
 ghost use Rattle.count_share.specs.Shares as shares;
@@ -34,14 +34,14 @@ pub struct CountTeam<G: Game> {
 
 impl<G: Game> Model for CountTeam<G> {
     ghost use Rattle.std.specs.Prelude.{◌≤◌};
-    ghost use Rattle.hive_model.specs.Courses.{position};
+    ghost use Rattle.hive_model.specs.Histories.{position};
     ghost use Rattle.count_share.specs.Shares.{Team, IsTeam};
 
     ghost Value = { Team };
 
-    ghost view = { λ t. record { root = position (G.course t.game); plies = t.plies } };
+    ghost view = { λ t. record { root = position (G.history t.game); plies = t.plies } };
 
-    ghost invariant = { λ t. IsTeam (G.course t.game) t.stack.free t.plies t.workers.items };
+    ghost invariant = { λ t. IsTeam (G.history t.game) t.stack.free t.plies t.workers.items };
 }
 
 /// How many positions keep the count of their moves in a count of so many plies. In a young game,
@@ -64,11 +64,11 @@ fn helpers<G: Game + Drop>(
 ) -> Result<Vec<CountWorker<G>>, AllocError>
     requires some { 1 ≤ plies }
     requires few { plies ≤ 8 }
-    requires short { length (G.course game.old).made ≤ 5000 }
-    requires spare { plies ≤ (G.course game.old).spare }
-    ensures dealt { IfOk result (λ ws. shares.AreHelpers (position (G.course game.old)) plies
+    requires short { length (G.history game.old).made ≤ 5000 }
+    requires spare { plies ≤ (G.history game.old).spare }
+    ensures dealt { IfOk result (λ ws. shares.AreHelpers (position (G.history game.old)) plies
         ws.items) }
-    ensures game { G.course game.new ≡ G.course game.old }
+    ensures game { G.history game.new ≡ G.history game.old }
 {
     if workers <= 1 {
         return Ok(Vec::new(alloc));
@@ -134,9 +134,9 @@ impl<G: Game + Send + Drop> CountTeam<G> {
     ) -> Result<CountTeam<G>, AllocError>
         requires some { 1 ≤ plies }
         requires few { plies ≤ 8 }
-        requires short { length (G.course game).made ≤ 5000 }
-        requires spare { plies ≤ (G.course game).spare }
-        ensures root { IfOk result (λ t. t.root ≡ position (G.course game)) }
+        requires short { length (G.history game).made ≤ 5000 }
+        requires spare { plies ≤ (G.history game).spare }
+        ensures root { IfOk result (λ t. t.root ≡ position (G.history game)) }
         ensures plies { IfOk result (λ t. t.plies ≡ plies) }
     {
         let room = room_for(&game, plies);
@@ -161,7 +161,7 @@ impl<G: Game + Send + Drop> CountTeam<G> {
         ensures lines { result ≡ lines self.old.root plies }
         ensures same { self.new ≡ self.old }
     {
-        self.game.is_sound();
+        self.game.lemma_sound();
         if plies <= 2 || self.workers.is_empty() {
             return count_lines(&mut self.game, plies, &mut self.stack, &mut self.counts);
         }

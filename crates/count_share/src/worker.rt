@@ -6,7 +6,7 @@ ghost use Rattle.hive_model.specs.Lists.{IsOn};
 ghost use Rattle.hive_model.specs.Legal.{moves};
 ghost use Rattle.hive_model.specs.Games.{after};
 ghost use Rattle.hive_model.specs.Minimax.{lines};
-ghost use Rattle.hive_model.specs.Courses.{position};
+ghost use Rattle.hive_model.specs.Histories.{position};
 ghost use Rattle.count_share.specs.Classes.{lines_of};
 ghost use Rattle.count_share.specs.Shares.{CanCount, HasCounted, HasTaken, idle};
 
@@ -33,7 +33,7 @@ impl<G: Game> Model for CountWorker<G> {
     ghost Value = { Share };
 
     ghost view = { λ w. record {
-      course = G.course w.game;
+      history = G.history w.game;
       free = w.stack.free;
       classes = w.classes.items;
       total = w.total;
@@ -50,11 +50,11 @@ fn lines_behind<G: Game>(
     counts: &mut MoveCounts,
 ) -> u128
     requires few { plies ≤ 7 }
-    requires legal { IsOn (moves (position (G.course game.old))) m }
-    requires spare { plies < (G.course game.old).spare }
+    requires legal { IsOn (moves (position (G.history game.old))) m }
+    requires spare { plies < (G.history game.old).spare }
     requires room { plies ≤ stack.old.free }
-    ensures count { result ≡ lines (after (position (G.course game.old)) m) plies }
-    ensures game { G.course game.new ≡ G.course game.old }
+    ensures count { result ≡ lines (after (position (G.history game.old)) m) plies }
+    ensures game { G.history game.new ≡ G.history game.old }
     ensures stack { stack.new ≡ stack.old }
 {
     game.play(m);
@@ -74,12 +74,12 @@ fn count_classes<G: Game>(
 ) -> u128
     requires some { 1 ≤ plies }
     requires few { plies ≤ 8 }
-    requires legal { All (λ c. IsOn (moves (position (G.course game.old))) c.moved) classes.now }
-    requires spare { plies ≤ (G.course game.old).spare }
+    requires legal { All (λ c. IsOn (moves (position (G.history game.old))) c.moved) classes.now }
+    requires spare { plies ≤ (G.history game.old).spare }
     requires room { plies ≤ stack.old.free }
-    requires fits { lines_of (position (G.course game.old)) (plies - 1) classes.now < 2 ^ 128 }
-    ensures count { result ≡ lines_of (position (G.course game.old)) (plies - 1) classes.now }
-    ensures game { G.course game.new ≡ G.course game.old }
+    requires fits { lines_of (position (G.history game.old)) (plies - 1) classes.now < 2 ^ 128 }
+    ensures count { result ≡ lines_of (position (G.history game.old)) (plies - 1) classes.now }
+    ensures game { G.history game.new ≡ G.history game.old }
     ensures stack { stack.new ≡ stack.old }
 {
     let mut total = 0;
@@ -102,7 +102,7 @@ impl<G: Game + Drop> CountWorker<G> {
     ) -> Result<CountWorker<G>, AllocError>
         requires some { 1 ≤ plies }
         requires few { plies ≤ 8 }
-        ensures { IfOk result (λ w. w ≡ idle (G.course game) plies) }
+        ensures { IfOk result (λ w. w ≡ idle (G.history game) plies) }
     {
         Ok(CountWorker {
             game,

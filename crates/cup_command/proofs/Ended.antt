@@ -26,7 +26,7 @@ ended-all setup [] [] (t ∷ ends) ran = absurd ran
 ended-all setup [] (new ∷ news) ends ran = absurd ran
 ended-all setup (old ∷ olds) [] ends ran = absurd ran
 ended-all setup (old ∷ olds) (new ∷ news) [] ran = absurd ran
-ended-all setup (old ∷ olds) (new ∷ news) (t ∷ ends) ran = All-cons (IsEnded setup) t ends (record { same = ran.1.links.same; judged = ran.1.links.judged; in_time = ran.1.in_time; course = ran.1.links.course }) (ended-all setup olds news ends ran.3)
+ended-all setup (old ∷ olds) (new ∷ news) (t ∷ ends) ran = All-cons (IsEnded setup) t ends (record { same = ran.1.links.same; judged = ran.1.links.judged; in_time = ran.1.in_time; history = ran.1.links.history }) (ended-all setup olds news ends ran.3)
 
 -- What was counted
 

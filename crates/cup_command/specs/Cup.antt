@@ -13,7 +13,7 @@ use Rattle.match_core.specs.Setups.{setup_plain}
 use Rattle.match_core.specs.declared.verdict.Verdict.{Verdict}
 use Rattle.match_core.specs.MatchState.{MatchState}
 use Rattle.match_core.specs.Feeds.{IsFront}
-use Rattle.match_runner.specs.Runs.{HasCourse, IsJudged, IsLate}
+use Rattle.match_runner.specs.Runs.{HasHistory, IsJudged, IsLate}
 use Rattle.match_command.specs.Match.{AreFronts, AreSent, IsBroke, end_of}
 use Rattle.cup.specs.declared.pairing.Pairing.{Pairing}
 use Rattle.cup.specs.declared.standing.Standing.{Standing as Place}
@@ -117,7 +117,7 @@ pub record IsEnded (setup : Setup) (t : MatchState) : Type 0 where
   pub same : t.setup ≡ setup_plain setup
   pub judged : IsJudged t
   pub in_time : ¬ IsLate t.verdict
-  pub course : HasCourse (setup_plain setup) t
+  pub history : HasHistory (setup_plain setup) t
 
 -- All games of a cup were played to these ends, over programs that were started in their order. If
 -- a side broke, a failed program was counted.

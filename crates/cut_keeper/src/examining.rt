@@ -61,7 +61,7 @@ fn is_separating<B: Board, L: Ledger>(
     ensures none { number ≡ pos 1 → steps.new ≡ steps.old }
     ensures step { steps.new ≤ steps.old + 1 }
 {
-    board.is_board();
+    board.lemma_board();
     if let Some(told) = told_by_arcs(board.neighbours(place), number) {
         return told;
     }

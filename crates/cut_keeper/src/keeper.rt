@@ -47,7 +47,8 @@ impl Model for CutKeeper {
 
     ghost Value = { Kept };
 
-    ghost view = { λ k. record { number = k.number; marks = k.marks; tops = k.tops; high = k.high } };
+    ghost view = { λ k. record
+        { number = k.number; marks = k.marks; tops = k.tops; high = k.high } };
 }
 
 /// What a place adds to Euler's number of the board while it is occupied: 1, minus the arcs of
@@ -81,7 +82,7 @@ fn number_without<B: Board>(keeper: &CutKeeper, board: &B, piece: Piece, place: 
     requires within { IsOnTheMap place }
     ensures { result ≡ euler_number (B.stacks board.now) }
 {
-    board.is_board();
+    board.lemma_board();
     if board.height(place) > 0 {
         return keeper.number;
     }
@@ -130,7 +131,7 @@ impl CutKeeper {
         ensures none { euler_number (B.stacks board.now) ≡ pos 1 → steps.new ≡ steps.old }
         ensures few { steps.new ≤ steps.old + 3 }
     {
-        board.is_board();
+        board.lemma_board();
         let number = number_with(self, board, piece, place);
         added(&mut self.marks, board, number, piece, place, steps);
         self.number = number;
@@ -155,7 +156,7 @@ impl CutKeeper {
         ensures none { euler_number (B.stacks board.now) ≡ pos 1 → steps.new ≡ steps.old }
         ensures few { steps.new ≤ steps.old + 3 }
     {
-        board.is_board();
+        board.lemma_board();
         let number = number_without(self, board, piece, place);
         removed(&mut self.marks, board, number, piece, place, steps);
         self.number = number;
@@ -192,7 +193,7 @@ impl CutKeeper {
         requires { Keeps (B.stacks board.now) self.now }
         ensures { result ≡ free_pieces (B.stacks board.now) None }
     {
-        board.is_board();
+        board.lemma_board();
         self.tops.bits() & (self.high.bits() | !self.marks.bits())
     }
 }
@@ -284,8 +285,8 @@ impl<B: Board> Board for KeptCuts<'_, B> {
         self.board.spot(piece)
     }
 
-    fn is_board(&self) {
-        self.board.is_board();
+    fn lemma_board(&self) {
+        self.board.lemma_board();
     }
 
     fn under(&self, piece: Piece) -> Option<Piece> {

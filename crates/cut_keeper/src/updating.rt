@@ -52,7 +52,7 @@ fn mark_all_by_arcs<B: Board>(marks: &mut Marks, board: &B)
     requires number { euler_number (B.stacks board.now) ≡ pos 1 }
     ensures { MarksSeparating (B.stacks board.now) marks.new }
 {
-    board.is_board();
+    board.lemma_board();
     for x in 0..28u8 {
         mark_by_arcs(marks, board, Piece::at(x));
     }
@@ -156,7 +156,7 @@ pub(crate) fn added<B: Board, L: Ledger>(
     ensures none { number ≡ pos 1 → steps.new ≡ steps.old }
     ensures few { steps.new ≤ steps.old + 3 }
 {
-    board.is_board();
+    board.lemma_board();
     if board.height(place) > 1 {
         added_above(marks, board, piece, place);
         return;
@@ -251,7 +251,7 @@ pub(crate) fn removed<B: Board, L: Ledger>(
     ensures none { number ≡ pos 1 → steps.new ≡ steps.old }
     ensures few { steps.new ≤ steps.old + 3 }
 {
-    board.is_board();
+    board.lemma_board();
     if let Some(top) = board.top(place) {
         removed_above(marks, board, piece, place, top);
         return;

@@ -4,7 +4,7 @@ use Rattle.hive_model.specs.declared.best.Best.{Best}
 use Rattle.hive_model.specs.declared.best.Timed.{Timed}
 use Rattle.hive_model.specs.Positions.{Position}
 use Rattle.hive_model.specs.Minimax.{value, best, nodes, reads}
-use Rattle.hive_model.specs.Courses.{Course, position}
+use Rattle.hive_model.specs.Histories.{History, position}
 use Rattle.hive_model.specs.Costs.{share}
 use Rattle.search_core.specs.Moments.{Moment, Spends, Answers}
 
@@ -16,9 +16,9 @@ pub record IsTop (p : Position) (depth : ℕ) (top : Best) : Type 0 where
 -- Between two moments a search of a root spent no more than the plies of all its lines and the
 -- share of one worker alone. It answers the best move.
 pub record SearchesRoot (depth : ℕ) (answer : Option Best) (old new : Moment) : Type 0 where
-  pub spends : Spends (nodes (position old.course) depth) (share (position old.course) depth 0 1)
+  pub spends : Spends (nodes (position old.history) depth) (share (position old.history) depth 0 1)
       old new
-  pub answers : Answers (IsTop (position old.course) depth) answer old new
+  pub answers : Answers (IsTop (position old.history) depth) answer old new
 
 -- What a search with this number of milliseconds records, between the last readings of the clock
 -- before and after it. The depth is below 64 only if the time was over, and it is 1 if there was no
@@ -45,7 +45,7 @@ IsWatched p readings readings' played played' = readings' < 2 ^ 64 - 1 → playe
 
 -- A searcher that is prepared for at most this many plies is prepared for these, and the game has
 -- room for them.
-pub record IsPrepared (plies most : ℕ) (game : Course) : Type 0 where
+pub record IsPrepared (plies most : ℕ) (game : History) : Type 0 where
   pub prepared : plies ≤ most
   pub spare : plies ≤ game.spare
 

@@ -8,7 +8,7 @@ ghost use Rattle.hive_model.specs.Legal.{is_over, moves};
 ghost use Rattle.hive_model.specs.Games.{after};
 ghost use Rattle.hive_model.specs.Minimax.{value, reply_value};
 ghost use Rattle.hive_model.specs.Costs.{cost};
-ghost use Rattle.hive_model.specs.Courses.{position};
+ghost use Rattle.hive_model.specs.Histories.{position};
 ghost use Rattle.search_laws.specs.Found.{IsOpen};
 ghost use Rattle.search_laws.specs.Nodes.{HasRoom, IsNode, CanReply};
 ghost use Rattle.search_core.specs.Times.{behind, sum_but};
@@ -45,11 +45,11 @@ pub(crate) fn best_reply<G: Game, C: Clock>(
     work: &mut Workspace,
     clock: &mut C,
 ) -> Option<Best>
-    requires goes_on { is_over (position (G.course game.old)) ≡ false }
+    requires goes_on { is_over (position (G.history game.old)) ≡ false }
     requires some { 1 ≤ depth }
-    requires room { HasRoom depth (G.course game.old) work.old.stack }
+    requires room { HasRoom depth (G.history game.old) work.old.stack }
     requires early { has_come work.old.ticker.deadline (C.last clock.old) ≡ false }
-    ensures { let at = moment G.course G.played C.readings C.last C.previous in
+    ensures { let at = moment G.history G.played C.readings C.last C.previous in
         SearchesRoot depth result
         (at game.old work.old clock.old) (at game.new work.new clock.new) }
 {
@@ -85,8 +85,8 @@ fn try_all<G: Game, C: Clock>(
     work: &mut Workspace,
     clock: &mut C,
 ) -> Option<Best>
-    requires node { IsNode depth level (G.course game.old) work.old.stack }
-    ensures { let at = moment G.course G.played C.readings C.last C.previous in
+    requires node { IsNode depth level (G.history game.old) work.old.stack }
+    ensures { let at = moment G.history G.played C.readings C.last C.previous in
         SearchesRoot depth result
         (at game.old work.old clock.old) (at game.new work.new clock.new) }
 {
@@ -124,19 +124,19 @@ fn try_in_turn<G: Game, C: Clock>(
     work: &mut Workspace,
     clock: &mut C,
 ) -> Option<Best>
-    requires node { IsNode depth level (G.course game.old) work.old.stack }
+    requires node { IsNode depth level (G.history game.old) work.old.stack }
     requires low { negsuc 1000088 ≤ℤ begun.worth }
-    requires high { begun.worth ≤ℤ value (position (G.course game.old)) depth }
+    requires high { begun.worth ≤ℤ value (position (G.history game.old)) depth }
     requires known { IfSome begun.hint (λ i. (m : AnyMove)
-        → slice_get (moves (position (G.course game.old))) i ≡ Some m
-        → reply_value (position (G.course game.old)) (depth - 1) m ≡ begun.worth) }
-    ensures spends { let at = moment G.course G.played C.readings C.last C.previous in
-        Spends (sum_but begun.hint 0 (behind (position (G.course game.old)) (depth - 1))
-        (moves (position (G.course game.old))))
-        (turns_share (position (G.course game.old)) depth)
+        → slice_get (moves (position (G.history game.old))) i ≡ Some m
+        → reply_value (position (G.history game.old)) (depth - 1) m ≡ begun.worth) }
+    ensures spends { let at = moment G.history G.played C.readings C.last C.previous in
+        Spends (sum_but begun.hint 0 (behind (position (G.history game.old)) (depth - 1))
+        (moves (position (G.history game.old))))
+        (turns_share (position (G.history game.old)) depth)
         (at game.old work.old clock.old) (at game.new work.new clock.new) }
-    ensures answers { let at = moment G.course G.played C.readings C.last C.previous in
-        Answers (IsTop (position (G.course game.old)) depth) result
+    ensures answers { let at = moment G.history G.played C.readings C.last C.previous in
+        Answers (IsTop (position (G.history game.old)) depth) result
         (at game.old work.old clock.old) (at game.new work.new clock.new) }
 {
     let count = work.stack.level_len(level);
@@ -183,15 +183,15 @@ fn worth_of<G: Game, C: Clock>(
     clock: &mut C,
 ) -> Option<i32>
     requires window { IsOpen node.window }
-    requires can { CanReply m node.depth (G.course game.old) work.old.stack }
-    requires known { IfSome known (λ v. reply_value (position (G.course game.old)) node.depth m
+    requires can { CanReply m node.depth (G.history game.old) work.old.stack }
+    requires known { IfSome known (λ v. reply_value (position (G.history game.old)) node.depth m
         ≡ v) }
-    ensures spends { let at = moment G.course G.played C.readings C.last C.previous in
-        Spends (if is_some known then 0 else behind (position (G.course game.old)) node.depth m)
-        (1 + cost (after (position (G.course game.old)) m) node.depth (neg_ℤ node.window.beta)
+    ensures spends { let at = moment G.history G.played C.readings C.last C.previous in
+        Spends (if is_some known then 0 else behind (position (G.history game.old)) node.depth m)
+        (1 + cost (after (position (G.history game.old)) m) node.depth (neg_ℤ node.window.beta)
         (neg_ℤ node.window.alpha))
         (at game.old work.old clock.old) (at game.new work.new clock.new) }
-    ensures answers { let at = moment G.course G.played C.readings C.last C.previous in
+    ensures answers { let at = moment G.history G.played C.readings C.last C.previous in
         AnswersReply m node result
         (at game.old work.old clock.old) (at game.new work.new clock.new) }
 {

@@ -40,7 +40,7 @@ fn counted<B: Board>(board: &B, piece: Piece) -> i32
 pub fn euler_number<B: Board>(board: &B) -> i32
     ensures { result ≡ euler_number (B.stacks board.now) }
 {
-    board.is_board();
+    board.lemma_board();
     let mut number = 0i32;
     for x in 0..28u8 {
         number += counted(board, Piece::at(x));
@@ -66,7 +66,7 @@ pub fn is_separating_on<B: Board>(board: &B, place: Place) -> bool
     requires within { IsWithin 10000 place }
     ensures { IsTrue result ↔ IsSeparating (B.stacks board.now) place }
 {
-    board.is_board();
+    board.lemma_board();
     is_separating_by_arcs(board.neighbours(place))
 }
 

@@ -9,7 +9,7 @@ use Rattle.hive_model.specs.declared.places.State.TheVariants.{NotStarted, InPro
 use Rattle.hive_model.specs.Positions.{Position, opening}
 use Rattle.hive_model.specs.Legal.{state, is_over_state, is_over}
 use Rattle.hive_model.specs.Games.{after, replay, AreLegal}
-use Rattle.hive_model.specs.Courses.{is_listed}
+use Rattle.hive_model.specs.Histories.{is_listed}
 use Rattle.hive_model.specs.Keys.{KeyParts, key}
 use Rattle.hive_model.specs.Repetition.{positions, keys, times, count_last, ends_as, outcome_under, StandsUnder}
 use Rattle.hive_model.proofs.ListedLaws.{listed_on}

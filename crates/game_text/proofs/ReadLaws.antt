@@ -11,7 +11,7 @@ use Rattle.hive_model.specs.Games.{after, replay, AreLegal, IsGame}
 use Rattle.hive_model.specs.Denotes.{Denotes}
 use Rattle.hive_model.specs.Keys.{KeyParts, key}
 use Rattle.hive_model.specs.Repetition.{keys}
-use Rattle.hive_model.specs.Courses.{Course, position, with_move, is_listed}
+use Rattle.hive_model.specs.Histories.{History, position, with_move, is_listed}
 use Rattle.move_text.specs.Faults.{Refuses}
 use Rattle.move_text.specs.Moves.{move_of}
 use Rattle.move_text.specs.declared.faults.MoveFault.{MoveFault}
@@ -27,7 +27,7 @@ use Rattle.game_text.proofs.OpenLaws.{replay_more, follows_again, drawn_first, n
 -- One move
 
 -- the moves leave the game type as it is
-pub kind_here : (c : Course) → (position c).game_type ≡ c.game_type
+pub kind_here : (c : History) → (position c).game_type ≡ c.game_type
 kind_here c = (games_count c.game_type c.made).game_type
 
 move_here : (p : Position) (t : GameType) (b : Stacks) (x : List ℕ) → t ≡ p.game_type → b ≡ p.board → move_of t b x ≡ move_of p.game_type p.board x
@@ -71,7 +71,7 @@ step_ok r seen front p x xs n m h =
     twice (Err fault) = refl
 
 -- the moves in front were played, and those of the parts are yet to be read
-pub record IsUnderWay (r : Bool) (c : Course) (t : GameType) (front : List Move) (ps : List (List ℕ)) (n : ℕ) (read : Result (List Move) GameFault) : Type 0 where
+pub record IsUnderWay (r : Bool) (c : History) (t : GameType) (front : List Move) (ps : List (List ℕ)) (n : ℕ) (read : Result (List Move) GameFault) : Type 0 where
   pub rest : prefixed front (moves_of r (keys c.game_type c.made) (position c) ps n) ≡ read
   pub kind : c.game_type ≡ t
   pub made : c.made ≡ front
@@ -79,7 +79,7 @@ pub record IsUnderWay (r : Bool) (c : Course) (t : GameType) (front : List Move)
   pub few : length c.made + length ps ≤ 5000
   pub room : length ps ≤ c.spare
 
-pub begins : (r : Bool) (c : Course) (front : List Move) (ps : List (List ℕ)) → front ≡ [] → c.made ≡ [] → length ps ≤ 5000 → length ps ≤ c.spare → IsUnderWay r c c.game_type front ps 1 (moves_from r c.game_type ps)
+pub begins : (r : Bool) (c : History) (front : List Move) (ps : List (List ℕ)) → front ≡ [] → c.made ≡ [] → length ps ≤ 5000 → length ps ≤ c.spare → IsUnderWay r c c.game_type front ps 1 (moves_from r c.game_type ps)
 begins r c front ps none fresh few room =
     let empty : length c.made ≡ 0 = ap length fresh in
     record {
@@ -96,10 +96,10 @@ begins r c front ps none fresh few room =
     same (Ok ms) = refl
     same (Err fault) = refl
 
-pub goes_on : (r : Bool) (c d e : Course) (t : GameType) (front front2 : List Move) (x : List ℕ) (ps rest : List (List ℕ)) (n n2 : ℕ) (m k : Move) (read : Result (List Move) GameFault)
+pub goes_on : (r : Bool) (c d e : History) (t : GameType) (front front2 : List Move) (x : List ℕ) (ps rest : List (List ℕ)) (n n2 : ℕ) (m k : Move) (read : Result (List Move) GameFault)
     → ps ≡ x ∷ rest → d ≡ c → e ≡ with_move d k → k ≡ m → front2 ≡ front ++ m ∷ [] → n2 ≡ n + 1 → Plays r (keys c.game_type c.made) (position c) x m → IsUnderWay r c t front ps n read → IsUnderWay r e t front2 rest n2 read
 goes_on r c d e t front front2 x ps rest n n2 m k read split same next one longer more plays h =
-    let course : e ≡ with_move c m = next ∙ ap (λ z. with_move z k) same ∙ ap (with_move c) one in
+    let history : e ≡ with_move c m = next ∙ ap (λ z. with_move z k) same ∙ ap (with_move c) one in
     let place : position (with_move c m) ≡ after (position c) m = replay_more (opening c.game_type) c.made m in
     let known : keys c.game_type (c.made ++ m ∷ []) ≡ keys c.game_type c.made ++ key (after (position c) m) ∷ [] = keys_grow c.game_type c.made m ∙ ap (λ z. keys c.game_type c.made ++ key z ∷ []) place in
     let whole = ap length split in
@@ -107,7 +107,7 @@ goes_on r c d e t front front2 x ps rest n n2 m k read split same next one longe
     let made = length_more c.made m in
     let few = h.few in
     let room = h.room in
-    subst (λ z. IsUnderWay r z t front2 rest n2 read) (sym course) (record {
+    subst (λ z. IsUnderWay r z t front2 rest n2 read) (sym history) (record {
       rest = ap (λ f. prefixed f (moves_of r (keys c.game_type (c.made ++ m ∷ [])) (position (with_move c m)) rest n2)) longer
           ∙ (λ i. prefixed (front ++ m ∷ []) (moves_of r (known i) (place i) rest (more i)))
           ∙ sym (step_ok r (keys c.game_type c.made) front (position c) x rest n m plays) ∙ ap (λ z. prefixed front (moves_of r (keys c.game_type c.made) (position c) z n)) (sym split) ∙ h.rest;
@@ -118,10 +118,10 @@ goes_on r c d e t front front2 x ps rest n n2 m k read split same next one longe
       room = omega (arith, size, room);
     })
 
-pub sound_here : (r : Bool) (c : Course) (t : GameType) (front : List Move) (ps : List (List ℕ)) (n : ℕ) (read : Result (List Move) GameFault) → IsUnderWay r c t front ps n read → IsSound (position c)
+pub sound_here : (r : Bool) (c : History) (t : GameType) (front : List Move) (ps : List (List ℕ)) (n : ℕ) (read : Result (List Move) GameFault) → IsUnderWay r c t front ps n read → IsSound (position c)
 sound_here r c t front ps n read h = let few = h.few in (games_sound c.game_type c.made h.legal (omega (arith, few))).0
 
-pub ends : (r : Bool) (c : Course) (t : GameType) (front : List Move) (n : ℕ) (read : Result (List Move) GameFault) → IsUnderWay r c t front [] n read → read ≡ Ok front
+pub ends : (r : Bool) (c : History) (t : GameType) (front : List Move) (n : ℕ) (read : Result (List Move) GameFault) → IsUnderWay r c t front [] n read → read ≡ Ok front
 unfolding moves_of
 ends r c t front n read h = sym h.rest ∙ ap (λ l. Ok l) (sym (none front))
   where
@@ -157,7 +157,7 @@ pub agrees_same : {X : Type 0} (z read : Result X GameFault) → z ≡ read → 
 agrees_same (Ok g) read e = sym e
 agrees_same (Err fault) read e = fails_made fault read (sym e)
 
-pub fails_here : (r : Bool) (c : Course) (t : GameType) (front : List Move) (x : List ℕ) (ps rest : List (List ℕ)) (n : ℕ) (fault : GameFault) (read : Result (List Move) GameFault)
+pub fails_here : (r : Bool) (c : History) (t : GameType) (front : List Move) (x : List ℕ) (ps rest : List (List ℕ)) (n : ℕ) (fault : GameFault) (read : Result (List Move) GameFault)
     → ps ≡ x ∷ rest → IsMoveFault r (keys c.game_type c.made) (position c) x n fault → IsUnderWay r c t front ps n read → Fails fault read
 fails_here r c t front x ps rest n fault read split h way =
     fails_made fault read (sym way.rest ∙ ap (prefixed front) (ap (λ z. moves_of r (keys c.game_type c.made) (position c) z n) split ∙ fault_is r (keys c.game_type c.made) (position c) x rest n fault h))

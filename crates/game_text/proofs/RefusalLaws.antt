@@ -9,7 +9,7 @@ use Rattle.hive_model.specs.Positions.{Position, opening}
 use Rattle.hive_model.specs.Lists.{IsOn}
 use Rattle.hive_model.specs.Legal.{is_over_state, moves}
 use Rattle.hive_model.specs.Games.{replay}
-use Rattle.hive_model.specs.Courses.{is_listed}
+use Rattle.hive_model.specs.Histories.{is_listed}
 use Rattle.hive_model.specs.Repetition.{keys, outcome_under}
 use Rattle.hive_model.proofs.ListedLaws.{listed_on}
 use Rattle.hive_model.specs.Fields.{type_bytes, state_bytes}

@@ -2,7 +2,7 @@
 use Rattle.std.proofs.Common.{◌≡◌, true, [], Ok, Err, refl}
 use Rattle.std.specs.Prelude.{codes, IsOk}
 use Rattle.std.specs.Fmt.{digits}
-use Rattle.hive_model.specs.Courses.{is_listed}
+use Rattle.hive_model.specs.Histories.{is_listed}
 use Rattle.hive_model.specs.Legal.{moves, state, pairs}
 use Rattle.hive_model.specs.Games.{after}
 use Rattle.hive_model.specs.Keys.{key_of}

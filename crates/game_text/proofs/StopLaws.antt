@@ -7,7 +7,7 @@ use Rattle.hive_model.specs.Positions.{Position, IsSound}
 use Rattle.hive_model.specs.Legal.{moves}
 use Rattle.hive_model.specs.Games.{after, replay, AreLegal}
 use Rattle.hive_model.specs.Denotes.{Denotes}
-use Rattle.hive_model.specs.Courses.{is_listed}
+use Rattle.hive_model.specs.Histories.{is_listed}
 use Rattle.hive_model.specs.Keys.{KeyParts, key}
 use Rattle.hive_model.specs.Strings.{DenoteMoves}
 use Rattle.move_text.specs.Faults.{Refuses}

@@ -9,7 +9,7 @@ use Rattle.hive_model.specs.Positions.{Position, IsSound, opening}
 use Rattle.hive_model.specs.Legal.{moves}
 use Rattle.hive_model.specs.Games.{after, replay, AreLegal, IsGame}
 use Rattle.hive_model.specs.Denotes.{text}
-use Rattle.hive_model.specs.Courses.{Course, position, with_move}
+use Rattle.hive_model.specs.Histories.{History, position, with_move}
 use Rattle.hive_model.specs.Strings.{joined_on, texts}
 use Rattle.hive_model.proofs.GetLemmas.{get_within, drop-at}
 use Rattle.move_text.specs.Moves.{IsMoveWithin}
@@ -85,7 +85,7 @@ parts_end {X} bytes items i p q r front start ps done before head seen =
 -- The copy
 
 -- this many of the game's moves were played on the copy, and written
-pub record IsCopying (g c : Course) (i : ℕ) (done : List (List ℕ)) : Type 0 where
+pub record IsCopying (g c : History) (i : ℕ) (done : List (List ℕ)) : Type 0 where
   pub kind : c.game_type ≡ g.game_type
   pub made : c.made ≡ take i g.made
   pub room : length g.made ≤ i + c.spare
@@ -93,25 +93,25 @@ pub record IsCopying (g c : Course) (i : ℕ) (done : List (List ℕ)) : Type 0 
   pub few : length g.made ≤ 5064
   pub written : done ++ texts (position c) (drop i g.made) ≡ texts (opening g.game_type) g.made
 
-here : (g c : Course) (i : ℕ) (done : List (List ℕ)) → IsCopying g c i done → position c ≡ replay (opening g.game_type) (take i g.made)
+here : (g c : History) (i : ℕ) (done : List (List ℕ)) → IsCopying g c i done → position c ≡ replay (opening g.game_type) (take i g.made)
 here g c i done h = λ j. replay (opening (h.kind j)) (h.made j)
 
-pub copy_sound : (g c : Course) (i : ℕ) (done : List (List ℕ)) → IsCopying g c i done → IsSound (position c)
+pub copy_sound : (g c : History) (i : ℕ) (done : List (List ℕ)) → IsCopying g c i done → IsSound (position c)
 copy_sound g c i done h =
     let few = h.few in
     let size = taken_size g.made i in
     let low : length (take i g.made) ≤ 9000 = omega (arith, few, size) in
     subst IsSound (sym (here g c i done h)) (games_sound g.game_type (take i g.made) (legal_part (opening g.game_type) g.made i h.legal) low).0
 
-pub copy_legal : (g c : Course) (i : ℕ) (done : List (List ℕ)) (m : Move) → IsCopying g c i done → slice_get g.made i ≡ Some m → IsOn (moves (position c)) m
+pub copy_legal : (g c : History) (i : ℕ) (done : List (List ℕ)) (m : Move) → IsCopying g c i done → slice_get g.made i ≡ Some m → IsOn (moves (position c)) m
 copy_legal g c i done m h at = subst (λ p. IsOn (moves p) m) (sym (here g c i done h)) (legal_next (opening g.game_type) g.made i m h.legal at)
 
-pub copy_within : (g c : Course) (i : ℕ) (done : List (List ℕ)) (m : Move) → IsCopying g c i done → slice_get g.made i ≡ Some m → IsMoveWithin m
+pub copy_within : (g c : History) (i : ℕ) (done : List (List ℕ)) (m : Move) → IsCopying g c i done → slice_get g.made i ≡ Some m → IsMoveWithin m
 copy_within g c i done m h at =
     let sound = copy_sound g c i done h in
     listed_within (position c) m sound (copy_legal g c i done m h at)
 
-pub copy_on : (g c d : Course) (i j : ℕ) (done done2 : List (List ℕ)) (m : Move) → IsCopying g c i done → slice_get g.made i ≡ Some m → i < length g.made
+pub copy_on : (g c d : History) (i j : ℕ) (done done2 : List (List ℕ)) (m : Move) → IsCopying g c i done → slice_get g.made i ≡ Some m → i < length g.made
     → d ≡ with_move c m → j ≡ i + 1 → done2 ≡ done ++ text (position c).board m ∷ [] → IsCopying g d j done2
 copy_on g c d i j done done2 m h at less next up more =
     let room = h.room in

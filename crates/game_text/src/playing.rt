@@ -1,7 +1,7 @@
 //! Games that are played from lists of moves.
 ghost use Rattle.std.specs.Prelude.{◌≡◌, ◌+◌, ◌≤◌, [], length, IfOk};
 ghost use Rattle.hive_model.specs.Games.{IsGame};
-ghost use Rattle.hive_model.specs.Courses.{most_plies};
+ghost use Rattle.hive_model.specs.Histories.{most_plies};
 
 use hive_model::{Game, GameType, Move};
 use std::alloc::{AllocError, Global};
@@ -13,9 +13,9 @@ pub(crate) fn unplayed<G: Game + Drop>(
     plies: u32,
 ) -> Result<G, AllocError>
     requires { plies ≤ most_plies }
-    ensures kind { IfOk result (λ g. (G.course g).game_type ≡ game_type) }
-    ensures fresh { IfOk result (λ g. (G.course g).made ≡ []) }
-    ensures room { IfOk result (λ g. plies ≤ (G.course g).spare) }
+    ensures kind { IfOk result (λ g. (G.history g).game_type ≡ game_type) }
+    ensures fresh { IfOk result (λ g. (G.history g).made ≡ []) }
+    ensures room { IfOk result (λ g. plies ≤ (G.history g).spare) }
 {
     let mut game = G::opening(alloc, game_type)?;
     game.reserve(plies)?;
@@ -32,9 +32,9 @@ pub fn played<G: Game + Drop>(
 ) -> Result<G, AllocError>
     requires game { IsGame game_type moves.now }
     requires few { length moves.now + room ≤ most_plies }
-    ensures kind { IfOk result (λ g. (G.course g).game_type ≡ game_type) }
-    ensures made { IfOk result (λ g. (G.course g).made ≡ moves.now) }
-    ensures room { IfOk result (λ g. room ≤ (G.course g).spare) }
+    ensures kind { IfOk result (λ g. (G.history g).game_type ≡ game_type) }
+    ensures made { IfOk result (λ g. (G.history g).made ≡ moves.now) }
+    ensures room { IfOk result (λ g. room ≤ (G.history g).spare) }
 {
     let mut game = unplayed::<G>(alloc, game_type, moves.len() as u32 + room)?;
     for m in moves {

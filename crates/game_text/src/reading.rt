@@ -18,7 +18,7 @@ ghost use Rattle.std.specs.Prelude.{
 };
 ghost use Rattle.hive_model.specs.Boards.{IsBoard};
 ghost use Rattle.hive_model.specs.Positions.{opening};
-ghost use Rattle.hive_model.specs.Courses.{position};
+ghost use Rattle.hive_model.specs.Histories.{position};
 ghost use Rattle.hive_model.specs.Repetition.{keys};
 ghost use Rattle.game_text.specs.Seen.{Sees};
 ghost use Rattle.hive_model.specs.Strings.{parts, IsGameLine, IsGameLineUnder};
@@ -54,15 +54,15 @@ use std::alloc::Global;
 /// repetition.
 fn one_move<G: Game>(game: &mut G, seen: &Seen, number: u32, part: &[u8]) -> Result<Move, GameFault>
     requires length { length part.now ≤ greatest_line }
-    requires sound { IsBoard (position (G.course game.old)).board }
-    requires seen { Sees seen.now (G.course game.old) }
+    requires sound { IsBoard (position (G.history game.old)).board }
+    requires seen { Sees seen.now (G.history game.old) }
     ensures ok { IfOk result (λ m. Plays seen.now.repetition
-        (keys (G.course game.old).game_type (G.course game.old).made) (position (G.course game.old))
-        part.now m) }
+        (keys (G.history game.old).game_type (G.history game.old).made)
+        (position (G.history game.old)) part.now m) }
     ensures err { IfErr result (λ fault. IsMoveFault seen.now.repetition
-        (keys (G.course game.old).game_type (G.course game.old).made) (position (G.course game.old))
-        part.now number fault) }
-    ensures same { G.course game.new ≡ G.course game.old }
+        (keys (G.history game.old).game_type (G.history game.old).made)
+        (position (G.history game.old)) part.now number fault) }
+    ensures same { G.history game.new ≡ G.history game.old }
 {
     match read_move(game.game_type(), game, part) {
         Ok(m) => {
@@ -87,15 +87,15 @@ fn play_moves<G: Game>(
     text: &[u8],
 ) -> Result<MoveList, GameFault>
     requires length { length text.now ≤ greatest_line }
-    requires fresh { (G.course game.old).made ≡ [] }
+    requires fresh { (G.history game.old).made ≡ [] }
     requires few { length (parts text.now) ≤ 5000 }
-    requires room { length (parts text.now) ≤ (G.course game.old).spare }
-    requires seen { Sees seen.old (G.course game.old) }
-    ensures moves { Agrees result (moves_from seen.old.repetition (G.course game.old).game_type
+    requires room { length (parts text.now) ≤ (G.history game.old).spare }
+    requires seen { Sees seen.old (G.history game.old) }
+    ensures moves { Agrees result (moves_from seen.old.repetition (G.history game.old).game_type
         (parts text.now)) }
-    ensures made { IfOk result (λ ms. ms ≡ (G.course game.new).made) }
-    ensures kind { (G.course game.new).game_type ≡ (G.course game.old).game_type }
-    ensures seen { IfOk result (λ _. Sees seen.new (G.course game.new)) }
+    ensures made { IfOk result (λ ms. ms ≡ (G.history game.new).made) }
+    ensures kind { (G.history game.new).game_type ≡ (G.history game.old).game_type }
+    ensures seen { IfOk result (λ _. Sees seen.new (G.history game.new)) }
     ensures rule { seen.new.repetition ≡ seen.old.repetition }
 {
     let mut moves = MoveList::new(alloc);
@@ -137,9 +137,9 @@ fn confirm<G: Game>(
     declared: Declared,
     moves: MoveList,
 ) -> Result<Parsed, GameFault>
-    requires kind { (G.course game.now).game_type ≡ declared.game_type }
-    requires made { (G.course game.now).made ≡ moves }
-    requires seen { Sees seen.now (G.course game.now) }
+    requires kind { (G.history game.now).game_type ≡ declared.game_type }
+    requires made { (G.history game.now).made ≡ moves }
+    requires seen { Sees seen.now (G.history game.now) }
     ensures { result ≡ confirmed seen.now.repetition declared.game_type declared.state declared.turn
         (Ok moves) }
 {
@@ -183,9 +183,9 @@ fn opening_for<G: Game + Drop>(
     plies: u32,
 ) -> Result<G, GameFault>
     requires { plies ≤ 5000 }
-    ensures kind { IfOk result (λ g. (G.course g).game_type ≡ game_type) }
-    ensures fresh { IfOk result (λ g. (G.course g).made ≡ []) }
-    ensures room { IfOk result (λ g. plies ≤ (G.course g).spare) }
+    ensures kind { IfOk result (λ g. (G.history g).game_type ≡ game_type) }
+    ensures fresh { IfOk result (λ g. (G.history g).made ≡ []) }
+    ensures room { IfOk result (λ g. plies ≤ (G.history g).spare) }
     ensures err { IfErr result (λ fault. fault ≡ GameFault.Memory) }
 {
     let Ok(mut game) = G::opening(alloc, game_type) else {
@@ -207,11 +207,11 @@ fn play_declared<G: Game>(
     text: &[u8],
 ) -> Result<Parsed, GameFault>
     requires length { length text.now ≤ greatest_line }
-    requires kind { (G.course game.old).game_type ≡ declared.game_type }
-    requires fresh { (G.course game.old).made ≡ [] }
+    requires kind { (G.history game.old).game_type ≡ declared.game_type }
+    requires fresh { (G.history game.old).made ≡ [] }
     requires few { length (parts text.now) ≤ 5000 }
-    requires room { length (parts text.now) ≤ (G.course game.old).spare }
-    requires seen { Sees seen.old (G.course game.old) }
+    requires room { length (parts text.now) ≤ (G.history game.old).spare }
+    requires seen { Sees seen.old (G.history game.old) }
     ensures { Agrees result (confirmed seen.old.repetition declared.game_type declared.state
         declared.turn (moves_from seen.old.repetition declared.game_type (parts text.now))) }
 {
@@ -231,10 +231,10 @@ fn read_moves_on<G: Game>(
     text: &[u8],
 ) -> Result<Parsed, GameFault>
     requires length { length text.now ≤ greatest_line }
-    requires kind { (G.course game.old).game_type ≡ declared.game_type }
-    requires fresh { (G.course game.old).made ≡ [] }
+    requires kind { (G.history game.old).game_type ≡ declared.game_type }
+    requires fresh { (G.history game.old).made ≡ [] }
     requires few { length (parts text.now) ≤ 5000 }
-    requires room { length (parts text.now) ≤ (G.course game.old).spare }
+    requires room { length (parts text.now) ≤ (G.history game.old).spare }
     ensures { Agrees result (confirmed repetition declared.game_type declared.state declared.turn
         (moves_from repetition declared.game_type (parts text.now))) }
 {

@@ -17,7 +17,7 @@ ghost use Rattle.std.specs.Prelude.{
   OnErr,
   if◌then◌else◌,
 };
-ghost use Rattle.hive_model.specs.Courses.{position};
+ghost use Rattle.hive_model.specs.Histories.{position};
 ghost use Rattle.hive_model.specs.Keys.{key};
 ghost use Rattle.hive_model.specs.Repetition.{ends_as, outcome_under};
 ghost use Rattle.game_text.specs.Reading.{is_third};
@@ -47,9 +47,9 @@ impl Seen {
 
     /// The key of a game before its first ply.
     pub fn of<G: Game>(alloc: Global, repetition: bool, game: &G) -> Result<Seen, AllocError>
-        requires { (G.course game.now).made ≡ [] }
+        requires { (G.history game.now).made ≡ [] }
         ensures rule { IfOk result (λ s. s.repetition ≡ repetition) }
-        ensures seen { IfOk result (λ s. Sees s (G.course game.now)) }
+        ensures seen { IfOk result (λ s. Sees s (G.history game.now)) }
     {
         let mut seen = Seen {
             repetition,
@@ -64,7 +64,7 @@ impl Seen {
     pub fn note<G: Game>(&mut self, game: &G) -> Result<(), AllocError>
         requires { length self.old.keys < 10000 }
         ensures pushed { OnOk result (self.new.keys
-            ≡ (if self.old.repetition then self.old.keys ++ key (position (G.course game.now))
+            ≡ (if self.old.repetition then self.old.keys ++ key (position (G.history game.now))
             ∷ [] else self.old.keys)) }
         ensures same { self.new.repetition ≡ self.old.repetition }
         ensures refused { OnErr result (self.new ≡ self.old) }
@@ -109,9 +109,9 @@ impl Seen {
 
     /// The outcome of the game whose keys these are.
     pub fn outcome<G: Game>(&self, game: &G) -> State
-        requires { Sees self.now (G.course game.now) }
-        ensures { result ≡ outcome_under self.now.repetition (G.course game.now).game_type
-            (G.course game.now).made }
+        requires { Sees self.now (G.history game.now) }
+        ensures { result ≡ outcome_under self.now.repetition (G.history game.now).game_type
+            (G.history game.now).made }
     {
         self.ends_as(game.state())
     }

@@ -16,9 +16,9 @@ use std::alloc::{AllocError, Global};
 /// The texts of the game's moves. The moves are replayed on a game of the same type that is made
 /// for it.
 pub fn texts_of<G: Game + Drop>(alloc: Global, game: &G) -> Result<MoveTexts, AllocError>
-    requires { IsGame (G.course game.now).game_type (G.course game.now).made }
-    ensures { IfOk result (λ r. r ≡ texts (opening (G.course game.now).game_type)
-        (G.course game.now).made) }
+    requires { IsGame (G.history game.now).game_type (G.history game.now).made }
+    ensures { IfOk result (λ r. r ≡ texts (opening (G.history game.now).game_type)
+        (G.history game.now).made) }
 {
     let plies = game.plies();
     let mut copy = unplayed::<G>(alloc, game.game_type(), plies)?;
@@ -34,9 +34,9 @@ pub fn texts_of<G: Game + Drop>(alloc: Global, game: &G) -> Result<MoveTexts, Al
 /// The keys of the game's positions, with the rule on. The moves are replayed on a game of the same
 /// type that is made for it.
 fn seen_of<G: Game + Drop>(alloc: Global, game: &G) -> Result<Seen, AllocError>
-    requires { IsGame (G.course game.now).game_type (G.course game.now).made }
+    requires { IsGame (G.history game.now).game_type (G.history game.now).made }
     ensures rule { IfOk result (λ s. s.repetition ≡ true) }
-    ensures seen { IfOk result (λ s. Sees s (G.course game.now)) }
+    ensures seen { IfOk result (λ s. Sees s (G.history game.now)) }
 {
     let plies = game.plies();
     let mut copy = unplayed::<G>(alloc, game.game_type(), plies)?;
@@ -55,9 +55,9 @@ pub fn seen_under<G: Game + Drop>(
     game: &G,
     repetition: bool,
 ) -> Result<Seen, AllocError>
-    requires { IsGame (G.course game.now).game_type (G.course game.now).made }
+    requires { IsGame (G.history game.now).game_type (G.history game.now).made }
     ensures rule { IfOk result (λ s. s.repetition ≡ repetition) }
-    ensures seen { IfOk result (λ s. Sees s (G.course game.now)) }
+    ensures seen { IfOk result (λ s. Sees s (G.history game.now)) }
 {
     if repetition {
         seen_of(alloc, game)
@@ -68,8 +68,8 @@ pub fn seen_under<G: Game + Drop>(
 
 /// The outcome of the game, with the rule of third repetition on or off.
 fn outcome<G: Game + Drop>(alloc: Global, game: &G, repetition: bool) -> Result<State, AllocError>
-    ensures { IfOk result (λ s. s ≡ outcome_under repetition (G.course game.now).game_type
-        (G.course game.now).made) }
+    ensures { IfOk result (λ s. s ≡ outcome_under repetition (G.history game.now).game_type
+        (G.history game.now).made) }
 {
     let state = game.state();
     if !repetition {
@@ -88,10 +88,10 @@ pub fn write_game_under<G: Game + Drop>(
     out: &mut ReplyText,
 ) -> Result<(), AllocError>
     ensures written { OnOk result (out.new ≡ out.old
-        ++ string_under repetition (G.course game.now).game_type (G.course game.now).made) }
+        ++ string_under repetition (G.history game.now).game_type (G.history game.now).made) }
     ensures refused { OnErr result (out.new ≡ out.old) }
 {
-    game.is_sound();
+    game.lemma_sound();
     let state = outcome(alloc, game, repetition)?;
     let texts = texts_of(alloc, game)?;
     texts.write(game.game_type(), state, game.side(), game.turn(), out)
@@ -106,7 +106,7 @@ pub fn write_game<G: Game + Drop>(
     out: &mut ReplyText,
 ) -> Result<(), AllocError>
     ensures written { OnOk result (out.new ≡ out.old
-        ++ string (G.course game.now).game_type (G.course game.now).made) }
+        ++ string (G.history game.now).game_type (G.history game.now).made) }
     ensures refused { OnErr result (out.new ≡ out.old) }
 {
     write_game_under(alloc, game, false, out)

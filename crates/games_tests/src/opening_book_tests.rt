@@ -1,12 +1,12 @@
 //! The answers of a book of four short games.
 
 ghost use Rattle.std.specs.Prelude.{◌≡◌};
-ghost use Rattle.hive_model.specs.Courses.{position};
+ghost use Rattle.hive_model.specs.Histories.{position};
 ghost use Rattle.hive_model.specs.Legal as rules;
 
 use game_text::{played, read_game};
 use hive_model::{Game, Move, MoveStack, Piece, Place, State};
-use opening_book::Tally;
+use opening_book::MoveTally;
 use plain_game::PlainGame;
 use std::alloc::{AllocError, Global};
 use std::test::Fail;
@@ -33,7 +33,7 @@ fn game_of(alloc: Global, text: &str) -> Result<Option<PlainGame>, AllocError> {
 
 /// Whether the game is over.
 fn is_over(game: &PlainGame) -> bool
-    ensures { result ≡ rules.is_over (position game.now.course) }
+    ensures { result ≡ rules.is_over (position game.now.history) }
 {
     match game.state() {
         State::NotStarted | State::InProgress => false,
@@ -55,7 +55,7 @@ fn book_of(
         return Ok(None);
     }
     let mut stack = MoveStack::new(alloc, 1)?;
-    let mut tally = Tally::of(alloc, &mut game, &mut stack)?;
+    let mut tally = MoveTally::of(alloc, &mut game, &mut stack)?;
     for text in games {
         let Some(mut other) = game_of(alloc, text)? else {
             return Ok(None);

@@ -2,7 +2,7 @@
 
 ghost use Rattle.std.specs.Prelude.{◌≡◌, ◌≤◌, length, IfOk};
 ghost use Rattle.io_edge.specs.Outside.{HasCause};
-ghost use Rattle.hive_model.specs.Courses.{position};
+ghost use Rattle.hive_model.specs.Histories.{position};
 ghost use Rattle.grow_game.specs.Growing.{full_type, start, grown_moves, choices, TellsBest};
 ghost use Rattle.grow_command.specs.Text.{grow_text};
 ghost use Rattle.grow_command.specs.Runs.{GrowRun};
@@ -22,11 +22,11 @@ const TABLE_ENTRIES: u32 = 16;
 fn made<G: Game + Drop>(alloc: Global, seed: u64, plies: u32) -> Result<Grown<G>, AllocError>
     requires some { 1 ≤ plies }
     requires few { plies ≤ 1000 }
-    ensures kind { IfOk result (λ r. (G.course r.game).game_type ≡ full_type) }
-    ensures made { IfOk result (λ r. (G.course r.game).made ≡ grown_moves seed plies) }
-    ensures moves { IfOk result (λ r. r.moves ≡ choices start (G.course r.game).made) }
-    ensures undone { IfOk result (λ r. r.undone ≡ length (G.course r.game).made) }
-    ensures best { IfOk result (λ r. TellsBest (position (G.course r.game)) r.best) }
+    ensures kind { IfOk result (λ r. (G.history r.game).game_type ≡ full_type) }
+    ensures made { IfOk result (λ r. (G.history r.game).made ≡ grown_moves seed plies) }
+    ensures moves { IfOk result (λ r. r.moves ≡ choices start (G.history r.game).made) }
+    ensures undone { IfOk result (λ r. r.undone ≡ length (G.history r.game).made) }
+    ensures best { IfOk result (λ r. TellsBest (position (G.history r.game)) r.best) }
 {
     let mut searcher = Searcher::prepare(alloc, TABLE_ENTRIES, 1)?;
     let mut stack = MoveStack::new(alloc, 2)?;

@@ -1,7 +1,7 @@
 //! The eight lines about a made game.
 
 ghost use Rattle.std.specs.Prelude.{◌≡◌, ◌++◌, codes, OnOk, IfOk};
-ghost use Rattle.hive_model.specs.Courses.{position};
+ghost use Rattle.hive_model.specs.Histories.{position};
 ghost use Rattle.hive_model.specs.Strings.{string};
 ghost use Rattle.grow_game.specs.Growing.{TellsBest};
 ghost use Rattle.certificate_text.specs.Text.{written_line};
@@ -16,9 +16,9 @@ use std::alloc::{AllocError, Global};
 
 /// Appends the line of the best move, which says `none` if there is none.
 fn push_best<G: Game>(text: &mut ReplyText, game: &G, best: Option<Best>) -> Result<(), AllocError>
-    requires { TellsBest (position (G.course game.now)) best }
+    requires { TellsBest (position (G.history game.now)) best }
     ensures { OnOk result (text.new
-        ≡ text.old ++ written_line (codes "best " ++ best_field (position (G.course game.now)))) }
+        ≡ text.old ++ written_line (codes "best " ++ best_field (position (G.history game.now)))) }
 {
     match best {
         Some(found) => push_move(text, b"best ", game, found.best),
@@ -29,7 +29,7 @@ fn push_best<G: Game>(text: &mut ReplyText, game: &G, best: Option<Best>) -> Res
 /// Appends the line of the game in its written form.
 fn push_game<G: Game + Drop>(alloc: Global, out: &mut ReplyText, game: &G) -> Result<(), AllocError>
     ensures { OnOk result (out.new ≡ out.old ++ written_line
-        (codes "game " ++ string (G.course game.now).game_type (G.course game.now).made)) }
+        (codes "game " ++ string (G.history game.now).game_type (G.history game.now).made)) }
 {
     out.push_all(b"game ")?;
     write_game(alloc, game, out)?;
@@ -42,10 +42,10 @@ pub(crate) fn text_about<G: Game + Drop>(
     seed: u64,
     grown: &Grown<G>,
 ) -> Result<ReplyText, AllocError>
-    requires { TellsBest (position (G.course grown.now.game)) grown.now.best }
-    ensures { let course = G.course grown.now.game in
+    requires { TellsBest (position (G.history grown.now.game)) grown.now.best }
+    ensures { let history = G.history grown.now.game in
         IfOk result (λ t. t ≡ lines_text
-        (lines_about seed course.game_type course.made grown.now.moves grown.now.undone)) }
+        (lines_about seed history.game_type history.made grown.now.moves grown.now.undone)) }
 {
     let game = &grown.game;
     let mut text = ReplyText::new(alloc);

@@ -2,7 +2,7 @@
 
 ghost use Rattle.std.specs.Prelude.{◌≡◌, ◌%◌, ◌<◌, ◌≤◌, false, length, Some};
 ghost use Rattle.hive_model.specs.Legal.{is_over, moves};
-ghost use Rattle.hive_model.specs.Courses.{position, with_move};
+ghost use Rattle.hive_model.specs.Histories.{position, with_move};
 ghost use Rattle.grow_game.specs.Growing.{word, next_state, drawn};
 
 use hive_model::{Game, Move, MoveStack};
@@ -28,14 +28,14 @@ fn draw(generator: &mut SplitMix64, choices: u32) -> u32
 
 /// Draws a legal move with the next word and plays it. The stack is as before.
 pub fn play_drawn<G: Game>(game: &mut G, generator: &mut SplitMix64, stack: &mut MoveStack) -> Drawn
-    requires goes_on { is_over (position (G.course game.old)) ≡ false }
-    requires spare { 1 ≤ (G.course game.old).spare }
+    requires goes_on { is_over (position (G.history game.old)) ≡ false }
+    requires spare { 1 ≤ (G.history game.old).spare }
     requires room { 1 ≤ stack.old.free }
-    ensures drawn { let p = position (G.course game.old) in
+    ensures drawn { let p = position (G.history game.old) in
         drawn (word generator.old) (moves p) ≡ Some result.m }
-    ensures choices { result.choices ≡ length (moves (position (G.course game.old))) }
+    ensures choices { result.choices ≡ length (moves (position (G.history game.old))) }
     ensures state { generator.new ≡ next_state generator.old }
-    ensures game { G.course game.new ≡ with_move (G.course game.old) result.m }
+    ensures game { G.history game.new ≡ with_move (G.history game.old) result.m }
     ensures stack { stack.new ≡ stack.old }
 {
     let level = stack.levels();

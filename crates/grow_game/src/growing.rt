@@ -1,7 +1,7 @@
 //! The game that a number makes, undone and played again.
 
 ghost use Rattle.std.specs.Prelude.{◌≡◌, ◌+◌, ◌≤◌, [], length, IfOk};
-ghost use Rattle.hive_model.specs.Courses.{position};
+ghost use Rattle.hive_model.specs.Histories.{position};
 ghost use Rattle.grow_game.specs.Growing.{full_type, start, grown_moves, choices, TellsBest};
 ghost use Rattle.grow_game.specs.Made.{AreMade};
 
@@ -48,12 +48,12 @@ fn play_grown<G: Game>(
     plies: u32,
     stack: &mut MoveStack,
 ) -> Result<GrownPlies, AllocError>
-    requires fresh { (G.course game.old).made ≡ [] }
+    requires fresh { (G.history game.old).made ≡ [] }
     requires few { plies ≤ 1000 }
-    requires spare { plies ≤ (G.course game.old).spare }
+    requires spare { plies ≤ (G.history game.old).spare }
     requires room { 1 ≤ stack.old.free }
-    ensures made { let from = G.course game.old in
-        IfOk result (λ r. AreMade seed plies from (G.course game.new) r.plies.items r.chosen) }
+    ensures made { let from = G.history game.old in
+        IfOk result (λ r. AreMade seed plies from (G.history game.new) r.plies.items r.chosen) }
     ensures few { IfOk result (λ r. length r.plies.items ≤ plies) }
     ensures stack { stack.new ≡ stack.old }
 {
@@ -82,9 +82,9 @@ fn play_grown<G: Game>(
 /// before.
 fn best_here<G: Game>(game: &mut G, searcher: &mut Searcher) -> Option<Best>
     requires prepared { 1 ≤ searcher.old }
-    requires spare { 1 ≤ (G.course game.old).spare }
-    ensures best { TellsBest (position (G.course game.old)) result }
-    ensures game { G.course game.new ≡ G.course game.old }
+    requires spare { 1 ≤ (G.history game.old).spare }
+    ensures best { TellsBest (position (G.history game.old)) result }
+    ensures game { G.history game.new ≡ G.history game.old }
     ensures searcher { searcher.new ≡ searcher.old }
 {
     if game.state().is_over() {
@@ -112,11 +112,11 @@ pub fn grow<G: Game + Drop>(
     requires few { plies ≤ 1000 }
     requires prepared { 1 ≤ searcher.old }
     requires room { 2 ≤ stack.old.free }
-    ensures kind { IfOk result (λ r. (G.course r.game).game_type ≡ full_type) }
-    ensures made { IfOk result (λ r. (G.course r.game).made ≡ grown_moves seed plies) }
-    ensures moves { IfOk result (λ r. r.moves ≡ choices start (G.course r.game).made) }
-    ensures undone { IfOk result (λ r. r.undone ≡ length (G.course r.game).made) }
-    ensures best { IfOk result (λ r. TellsBest (position (G.course r.game)) r.best) }
+    ensures kind { IfOk result (λ r. (G.history r.game).game_type ≡ full_type) }
+    ensures made { IfOk result (λ r. (G.history r.game).made ≡ grown_moves seed plies) }
+    ensures moves { IfOk result (λ r. r.moves ≡ choices start (G.history r.game).made) }
+    ensures undone { IfOk result (λ r. r.undone ≡ length (G.history r.game).made) }
+    ensures best { IfOk result (λ r. TellsBest (position (G.history r.game)) r.best) }
     ensures searcher { searcher.new ≡ searcher.old }
     ensures stack { stack.new ≡ stack.old }
 {

@@ -1,7 +1,7 @@
 //! Plies that were played, to be undone and played again.
 
 ghost use Rattle.std.specs.Prelude.{◌≡◌, ◌+◌, ◌++◌, ◌^◌, ◌<◌, ◌≤◌, [], length, IsTrue, ◌↔◌};
-ghost use Rattle.hive_model.specs.Courses.{position, without_last};
+ghost use Rattle.hive_model.specs.Histories.{position, without_last};
 ghost use Rattle.hive_model.specs.Games.{AreLegal};
 ghost use Rattle.hive_model.specs.Positions.{opening};
 ghost use Rattle.hive_model.specs.Keys.{key};
@@ -18,9 +18,9 @@ pub struct Ply {
 
 /// Undoes the last ply, and says whether the key is then this one.
 fn comes_back<G: Game>(game: &mut G, before: &Key) -> bool
-    requires { 1 ≤ length (G.course game.old).made }
-    ensures game { G.course game.new ≡ without_last (G.course game.old) }
-    ensures same { IsTrue result ↔ (key (position (G.course game.new)) ≡ before.now) }
+    requires { 1 ≤ length (G.history game.old).made }
+    ensures game { G.history game.new ≡ without_last (G.history game.old) }
+    ensures same { IsTrue result ↔ (key (position (G.history game.new)) ≡ before.now) }
 {
     game.undo();
     game.key() == *before
@@ -29,13 +29,13 @@ fn comes_back<G: Game>(game: &mut G, before: &Key) -> bool
 /// Undoes all plies of the game, from the last to the first. It counts those after which the key is
 /// again the one from before the ply.
 pub fn undo_all<G: Game>(game: &mut G, plies: &[Ply]) -> u32
-    requires made { (G.course game.old).made ≡ moves_of plies.now }
-    requires keyed { AreKeyed (opening (G.course game.old).game_type) plies.now }
+    requires made { (G.history game.old).made ≡ moves_of plies.now }
+    requires keyed { AreKeyed (opening (G.history game.old).game_type) plies.now }
     requires few { length plies.now < 2 ^ 32 }
     ensures undone { result ≡ length plies.now }
-    ensures kind { (G.course game.new).game_type ≡ (G.course game.old).game_type }
-    ensures none { (G.course game.new).made ≡ [] }
-    ensures spare { (G.course game.new).spare ≡ (G.course game.old).spare + length plies.now }
+    ensures kind { (G.history game.new).game_type ≡ (G.history game.old).game_type }
+    ensures none { (G.history game.new).made ≡ [] }
+    ensures spare { (G.history game.new).spare ≡ (G.history game.old).spare + length plies.now }
 {
     let mut undone = 0;
     for i in (0..plies.len()).rev() {
@@ -48,11 +48,11 @@ pub fn undo_all<G: Game>(game: &mut G, plies: &[Ply]) -> u32
 
 /// Plays the moves of these plies, one after another.
 pub fn play_all<G: Game>(game: &mut G, plies: &[Ply])
-    requires legal { AreLegal (position (G.course game.old)) (moves_of plies.now) }
-    requires spare { length plies.now ≤ (G.course game.old).spare }
-    ensures kind { (G.course game.new).game_type ≡ (G.course game.old).game_type }
-    ensures made { (G.course game.new).made ≡ (G.course game.old).made ++ moves_of plies.now }
-    ensures spare { (G.course game.new).spare + length plies.now ≡ (G.course game.old).spare }
+    requires legal { AreLegal (position (G.history game.old)) (moves_of plies.now) }
+    requires spare { length plies.now ≤ (G.history game.old).spare }
+    ensures kind { (G.history game.new).game_type ≡ (G.history game.old).game_type }
+    ensures made { (G.history game.new).made ≡ (G.history game.old).made ++ moves_of plies.now }
+    ensures spare { (G.history game.new).spare + length plies.now ≡ (G.history game.old).spare }
 {
     for ply in plies {
         game.play(ply.m.again());

@@ -22,7 +22,7 @@ pub fn has_colour<B: Board>(board: &B, colour: Colour) -> bool
     ensures answer { result ≡ has_colour (B.stacks board.now) colour }
     ensures board { IsBoard (B.stacks board.now) }
 {
-    board.is_board();
+    board.lemma_board();
     for x in 0..28u8 {
         let piece = Piece::at(x);
         if piece.colour().is(colour) && board.spot(piece).is_some() {

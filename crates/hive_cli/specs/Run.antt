@@ -3,8 +3,8 @@
 use Rattle.std.specs.Prelude.{◌≡◌, ℕ, Bool, true, false, List}
 use Rattle.std.specs.declared.string.String.{String}
 use Rattle.std.specs.declared.alloc.Global.{Global}
-use Rattle.audit_core.specs.declared.plan.Plan.{Plan}
-use Rattle.audit_command.specs.Audit.{AuditRun, AuditStarts, NoneIsOpen as NoProgramIsOpen}
+use Rattle.audit_core.specs.declared.plan.AuditPlan.{AuditPlan}
+use Rattle.audit_command.specs.Audit.{AuditRun, AuditStarts, NoProgramIsOpen}
 use Rattle.book_command.specs.Runs.{BookRun}
 use Rattle.certificate_commands.specs.Certifying.{CertifyRun}
 use Rattle.certificate_commands.specs.Verdicts.{CheckRun}
@@ -119,7 +119,7 @@ pub record PlayedTournament (words : List (String Global)) (format : Format) (st
   pub untimed : LeavesTimes before after
 
 -- the plan of the audit that is asked for
-abbrev pub plan_of : AuditAsked → Plan
+abbrev pub plan_of : AuditAsked → AuditPlan
 plan_of audit = record {
   games = audit.games;
   first = audit.first;
@@ -138,7 +138,7 @@ StartsAudited words status before after =
 
 -- The program that the words name was audited. The audit was reported and ended with this status.
 -- The input was not read, and no search was answered.
-pub record MadeAudit (words : List (String Global)) (plan : Plan) (status : Status)
+pub record MadeAudit (words : List (String Global)) (plan : AuditPlan) (status : Status)
     (before after : World) : Type 0 where
   pub audited : AuditRun plan status before after
   pub program : StartsAudited words status before.engines after.engines

@@ -22,7 +22,7 @@ ghost use Rattle.hive_cli.specs.Run.{
 };
 
 use audit_command::audit_engine;
-use audit_core::Plan;
+use audit_core::AuditPlan;
 use command_runs::Status;
 use command_words::{AuditAsked, audited_of, engines_of, programs_of, tournament_engines_of};
 use cup::FreeCupGate;
@@ -142,10 +142,10 @@ pub(crate) fn contested<
 }
 
 /// The plan of the audit that is asked for.
-fn plan_of(audit: AuditAsked) -> Plan
+fn plan_of(audit: AuditAsked) -> AuditPlan
     ensures { result ≡ plan_of audit }
 {
-    Plan {
+    AuditPlan {
         games: audit.games,
         first: audit.first,
         seed: audit.seed,

@@ -3,7 +3,7 @@ use Rattle.std.specs.Prelude.{◌≡◌, ℕ, ◌&&◌, nat_le, false, List, [],
 use Rattle.hive_model.specs.declared.pieces.GameType.{GameType}
 use Rattle.hive_model.specs.declared.places.Move.{Move}
 use Rattle.hive_model.specs.Positions.{Position}
-use Rattle.hive_model.specs.Courses.{Course, is_listed}
+use Rattle.hive_model.specs.Histories.{History, is_listed}
 use Rattle.hive_model.specs.Denotes.{text}
 use Rattle.hive_model.specs.Legal.{is_over, moves}
 use Rattle.hive_model.specs.Strings.{string_under}
@@ -40,9 +40,9 @@ abbrev pub while_on : Parsed → Answer → Answer
 while_on game answer = if is_over (last_position game) then Err GameOver else answer
 
 -- a game under way is at the end of this one
-pub record IsAt (course : Course) (game : Parsed) : Type 0 where
-  pub kind : course.game_type ≡ game.game_type
-  pub made : course.made ≡ game.moves
+pub record IsAt (history : History) (game : Parsed) : Type 0 where
+  pub kind : history.game_type ≡ game.game_type
+  pub made : history.made ≡ game.moves
 
 -- The answers
 

@@ -1,7 +1,7 @@
 //! The answers about the game that a line is.
 
 ghost use Rattle.std.specs.Prelude.{◌≡◌, ◌≤◌, false, length, map, IfOk, IfErr};
-ghost use Rattle.hive_model.specs.Courses.{position};
+ghost use Rattle.hive_model.specs.Histories.{position};
 ghost use Rattle.hive_model.specs.Denotes.{text as text_of};
 ghost use Rattle.hive_model.specs.Games.{IsGame};
 ghost use Rattle.hive_model.specs.Legal as rules;
@@ -60,8 +60,8 @@ fn resumed<G: Game + Drop>(alloc: Global, game: &Parsed, room: u32) -> Result<G,
     requires legal { IsGame game.now.game_type game.now.moves }
     requires few { length game.now.moves ≤ 5000 }
     requires room { room ≤ 64 }
-    ensures at { IfOk result (λ g. IsAt (G.course g) game.now) }
-    ensures spare { IfOk result (λ g. room ≤ (G.course g).spare) }
+    ensures at { IfOk result (λ g. IsAt (G.history g) game.now) }
+    ensures spare { IfOk result (λ g. room ≤ (G.history g).spare) }
     ensures memory { IfErr result (λ fault. fault ≡ Fault.Memory) }
 {
     match played::<G>(alloc, game.game_type, game.moves.items(), room) {
@@ -72,8 +72,8 @@ fn resumed<G: Game + Drop>(alloc: Global, game: &Parsed, room: u32) -> Result<G,
 
 /// The written form of a game under way.
 fn string_of<G: Game + Drop>(alloc: Global, game: &G) -> Result<ReplyText, Fault>
-    ensures text { IfOk result (λ t. t ≡ string_under false (G.course game.now).game_type
-        (G.course game.now).made) }
+    ensures text { IfOk result (λ t. t ≡ string_under false (G.history game.now).game_type
+        (G.history game.now).made) }
     ensures memory { IfErr result (λ fault. fault ≡ Fault.Memory) }
 {
     let mut text = ReplyText::new(alloc);
@@ -95,15 +95,15 @@ pub(crate) fn written<G: Game + Drop>(alloc: Global, line: &[u8]) -> Result<Repl
 /// The legal moves of a game under way, written and joined by semicolons.
 fn list_of<G: Game + Drop>(alloc: Global, game: &mut G) -> Result<ReplyText, Fault>
     ensures text { IfOk result (λ t. t ≡ joined
-        (map (text_of (position (G.course game.old)).board)
-        (moves (position (G.course game.old))))) }
+        (map (text_of (position (G.history game.old)).board)
+        (moves (position (G.history game.old))))) }
     ensures memory { IfErr result (λ fault. fault ≡ Fault.Memory) }
 {
     let Ok(mut stack) = MoveStack::new(alloc, 1) else {
         return Err(Fault::Memory);
     };
     game.list(&mut stack);
-    game.is_sound();
+    game.lemma_sound();
     match joined_moves(alloc, game, &stack) {
         Ok(text) => Ok(text),
         Err(_) => Err(Fault::Memory),
@@ -124,11 +124,11 @@ pub(crate) fn legal_moves<G: Game + Drop>(alloc: Global, line: &[u8]) -> Result<
 
 /// A legal move of a game under way, written.
 fn text_in<G: Game + Drop>(alloc: Global, game: &G, m: Move) -> Result<ReplyText, Fault>
-    requires legal { IsOn (moves (position (G.course game.now))) m }
-    ensures text { IfOk result (λ t. t ≡ text_of (position (G.course game.now)).board m) }
+    requires legal { IsOn (moves (position (G.history game.now))) m }
+    ensures text { IfOk result (λ t. t ≡ text_of (position (G.history game.now)).board m) }
     ensures memory { IfErr result (λ fault. fault ≡ Fault.Memory) }
 {
-    game.is_sound();
+    game.lemma_sound();
     let written = write_move(game, m);
     let mut text = ReplyText::new(alloc);
     match text.push_all(written.as_bytes()) {
@@ -139,12 +139,12 @@ fn text_in<G: Game + Drop>(alloc: Global, game: &G, m: Move) -> Result<ReplyText
 
 /// The best move of a game under way, `depth` plies deep, written.
 fn best_of<G: Game + Drop>(alloc: Global, game: &mut G, depth: u32) -> Result<ReplyText, Fault>
-    requires goes_on { rules.is_over (position (G.course game.old)) ≡ false }
+    requires goes_on { rules.is_over (position (G.history game.old)) ≡ false }
     requires some { 1 ≤ depth }
     requires deep { depth ≤ 64 }
-    requires spare { depth ≤ (G.course game.old).spare }
-    ensures text { IfOk result (λ t. t ≡ text_of_best (position (G.course game.old)).board
-        (best (position (G.course game.old)) depth)) }
+    requires spare { depth ≤ (G.history game.old).spare }
+    ensures text { IfOk result (λ t. t ≡ text_of_best (position (G.history game.old)).board
+        (best (position (G.history game.old)) depth)) }
     ensures memory { IfErr result (λ fault. fault ≡ Fault.Memory) }
 {
     let Ok(mut searcher) = Searcher::prepare(alloc, TABLE_ENTRIES, depth) else {
@@ -176,20 +176,20 @@ pub(crate) fn best_move<G: Game + Drop>(
 /// The move that the words denote on the board of a game under way, or why they denote none.
 fn read_in<G: Game>(game: &G, words: &[u8]) -> Result<Move, MoveFault>
     requires { length words.now ≤ greatest_line }
-    ensures { result ≡ move_of (G.course game.now).game_type
-        (position (G.course game.now)).board words.now }
+    ensures { result ≡ move_of (G.history game.now).game_type
+        (position (G.history game.now)).board words.now }
 {
-    game.is_sound();
+    game.lemma_sound();
     read_move(game.game_type(), game, words)
 }
 
 /// The legal move of a game under way that the words denote.
 #[tactic(auto, unfolding(crate::specs::Games::move_in))]
 fn move_in<G: Game + Drop>(game: &mut G, words: &[u8]) -> Result<Move, Fault>
-    ensures found { result ≡ move_in (G.course game.old).game_type
-        (position (G.course game.old)) words.now }
-    ensures legal { IfOk result (λ m. IsOn (moves (position (G.course game.old))) m) }
-    ensures same { G.course game.new ≡ G.course game.old }
+    ensures found { result ≡ move_in (G.history game.old).game_type
+        (position (G.history game.old)) words.now }
+    ensures legal { IfOk result (λ m. IsOn (moves (position (G.history game.old))) m) }
+    ensures same { G.history game.new ≡ G.history game.old }
 {
     if words.len() > GREATEST_LINE {
         return Err(Fault::Unreadable);

@@ -21,7 +21,7 @@ use Rattle.hive_model.specs.Positions.{Position}
 use Rattle.hive_model.specs.Placement.{IsInHand, IsLeastInHand, MayPlace, Placement, is_in_hand, is_least_in_hand, next_of, may_place, is_placement}
 use Rattle.hive_model.specs.Pieces.{kind_of, colour_of}
 use Rattle.hive_model.specs.Throws.{IsThrower, ThrowOver, Throw, is_thrower, throws_over, is_throw}
-use Rattle.hive_model.specs.Courses.{is_listed}
+use Rattle.hive_model.specs.Histories.{is_listed}
 use Rattle.hive_model.specs.Legal.{IsSurrounded, IsOver, Walk, LegalPair, IsLegal, is_surrounded, is_over, is_walk, is_legal_pair, move_cmp, moves}
 
 -- Neighbours and the hive

@@ -20,7 +20,7 @@ pub mod Denotes
 pub mod Fields
 pub mod Strings
 pub mod Stack
-pub mod Courses
+pub mod Histories
 pub mod Evaluation
 pub mod Keys
 pub mod SpotNumbers

@@ -35,11 +35,14 @@ ghost use Rattle.leaf_bounds.specs.Most.{IsAfar, IsQueenOpen, greatest_weight, q
 
 use hive_eval::occupied_round;
 use hive_model::{Board, Colour, Piece, Place};
-use leaf_worth::Base;
+use leaf_worth::BoardWithout;
 
 /// What one more neighbour of the side's queen counts, at most 40. There is no answer if she has
 /// five or six.
-#[tactic(auto, using(hive_model::proofs::PlaceLemmas::wider, hive_model::proofs::PlaceLemmas::wider_on_board))]
+#[tactic(auto, using(
+    hive_model::proofs::PlaceLemmas::wider,
+    hive_model::proofs::PlaceLemmas::wider_on_board
+))]
 fn queen_gain<B: Board>(board: &B, side: Colour) -> Option<u32>
     ensures gain { IfSome result (λ g. g ≡ queen_gain (B.stacks board.now) side) }
     ensures most { IfSome result (λ g. g ≤ 40) }
@@ -65,7 +68,7 @@ fn at_least_one(weight: u32) -> u32
 }
 
 /// The board's worth to the side that does not move then, plus `more`.
-fn turned_worth<B: Board>(base: &Base, board: &B, more: u32, side: Colour) -> i32
+fn turned_worth<B: Board>(base: &BoardWithout, board: &B, more: u32, side: Colour) -> i32
     requires found { IsFound (B.stacks board.now) side base.now }
     requires few { more ≤ 320 }
     ensures { result ≡ evaluation (B.stacks board.now) None (other_side side) +ℤ pos more }
@@ -112,7 +115,10 @@ fn are_apart(from: Place, to: Place) -> bool
 
 /// Whether a piece that is put on the place adds no neighbour to the side's queen. Then it is
 /// occupied, or it is no neighbour of hers.
-#[tactic(auto, using(hive_model::proofs::PlaceLemmas::wider, hive_model::proofs::PlaceLemmas::wider_on_board))]
+#[tactic(auto, using(
+    hive_model::proofs::PlaceLemmas::wider,
+    hive_model::proofs::PlaceLemmas::wider_on_board
+))]
 pub fn is_afar<B: Board>(board: &B, side: Colour, place: Place) -> bool
     ensures { IsTrue result → IsAfar (B.stacks board.now) side place }
 {
@@ -134,7 +140,7 @@ pub fn is_afar<B: Board>(board: &B, side: Colour, place: Place) -> bool
 /// There is no answer for the queen of the side to move after. There is none if she has five or six
 /// neighbours, or if one place alone is occupied.
 pub fn most_of_piece<B: Board>(
-    base: &Base,
+    base: &BoardWithout,
     board: &B,
     held: u32,
     piece: Piece,
@@ -150,7 +156,7 @@ pub fn most_of_piece<B: Board>(
         → IfSome result (λ v. neg_ℤ (value (after p (To piece q)) 0) ≤ℤ v) }
 {
     let _number = piece.index();
-    board.is_board();
+    board.lemma_board();
     if piece == side.queen() {
         return None;
     }
@@ -172,7 +178,7 @@ pub fn most_of_piece<B: Board>(
 ///
 /// There is no answer for that queen herself, or if one place alone is occupied.
 pub fn most_afar<B: Board>(
-    base: &Base,
+    base: &BoardWithout,
     board: &B,
     held: u32,
     piece: Piece,
@@ -189,7 +195,7 @@ pub fn most_afar<B: Board>(
         → IfSome result (λ v. neg_ℤ (value (after p (To piece q)) 0) ≤ℤ v) }
 {
     let _number = piece.index();
-    board.is_board();
+    board.lemma_board();
     if piece == side.queen() {
         return None;
     }
@@ -206,7 +212,12 @@ pub fn most_afar<B: Board>(
 ///
 /// There is no answer if the side that moves has no piece on the board, or if one place alone is
 /// occupied. There is none if the queen of the side to move after is covered.
-pub fn most_of_placements<B: Board>(base: &Base, board: &B, held: u32, side: Colour) -> Option<i32>
+pub fn most_of_placements<B: Board>(
+    base: &BoardWithout,
+    board: &B,
+    held: u32,
+    side: Colour,
+) -> Option<i32>
     requires found { IsFound (B.stacks board.now) side base.now }
     requires held { held ≡ held_weight (B.stacks board.now) None (other_side side) }
     requires white { is_surrounded (B.stacks board.now) White ≡ false }
@@ -215,7 +226,7 @@ pub fn most_of_placements<B: Board>(base: &Base, board: &B, held: u32, side: Col
         → (q : AnyPlace) → IsWithin 9000 q → Placement p x q
         → IfSome result (λ v. neg_ℤ (value (after p (To x q)) 0) ≤ℤ v) }
 {
-    board.is_board();
+    board.lemma_board();
     if !has_own(board, side.other()) {
         return None;
     }

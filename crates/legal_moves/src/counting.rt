@@ -62,7 +62,7 @@ pub fn count_moves<B: Cuts>(board: &B, turn: &Turn, over: bool) -> u32
     if over {
         return 0;
     }
-    board.is_board();
+    board.lemma_board();
     let pairs = count_pairs(board, turn);
     if pairs == 0 {
         return 1;

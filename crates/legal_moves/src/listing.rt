@@ -88,7 +88,7 @@ pub fn list<B: Cuts>(board: &B, turn: &Turn, over: bool, out: &mut MoveStack)
     if over {
         return;
     }
-    board.is_board();
+    board.lemma_board();
     push_pairs(board, turn, out);
     if out.level_len(out.levels() - 1) == 0 {
         out.push(Move::Pass);

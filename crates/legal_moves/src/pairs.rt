@@ -97,7 +97,7 @@ pub fn is_legal_move<B: Cuts>(board: &B, turn: &Turn, over: bool, m: Move) -> bo
     if over {
         return false;
     }
-    board.is_board();
+    board.lemma_board();
     match m {
         Move::Pass => !has_pair(board, turn),
         Move::To { piece, place } => is_pair(board, turn, piece, place),

@@ -42,7 +42,7 @@ fn find_thrower<B: Board>(
     let Some(over) = throwing_spot(board, thrower, again(&turn.rest)) else {
         return None;
     };
-    board.is_board();
+    board.lemma_board();
     mark_beside(board, over.place, beside);
     Some(over)
 }
@@ -210,7 +210,7 @@ fn is_thrown_by<B: Cuts>(board: &B, turn: &Turn, thrower: Piece, piece: Piece, p
     let Some(over) = throwing_spot(board, thrower, again(&turn.rest)) else {
         return false;
     };
-    board.is_board();
+    board.lemma_board();
     if !may_be_thrown(board, over.place, piece, again(&turn.rest)) {
         return false;
     }

@@ -3,7 +3,7 @@ ghost use Rattle.std.specs.Prelude.{◌≡◌, ◌≢◌, ◌≤◌, [], ◌∷�
 ghost use Rattle.hive_model.specs.Games.{IsGame};
 ghost use Rattle.hive_model.specs.Strings.{string_under};
 ghost use Rattle.io_edge.specs.Lines.{greatest_line};
-ghost use Rattle.hive_model.specs.Courses.{most_plies};
+ghost use Rattle.hive_model.specs.Histories.{most_plies};
 ghost use Rattle.game_text.specs.Reading.{game_under};
 ghost use Rattle.uhp_session.specs.Answers.{line_in, IsShort};
 ghost use Rattle.command_runs.specs.Reasons.{reason};

@@ -75,7 +75,7 @@ fn writes_kept_texts(rt: HostRuntime) -> Result<(), Fail> {
     let board = PlainBoard::new(rt.alloc())?;
     let mut texts = MoveTexts::new(rt.alloc());
     let mut out = ReplyText::new(rt.alloc());
-    board.is_board();
+    board.lemma_board();
     texts.push(&board, spider_to_origin())?;
     texts.push(&board, Move::Pass)?;
     assert_eq!(rt; texts.len(), 2);

@@ -131,7 +131,7 @@ played_over setup t w0 w b0 b r0 r timed before after wf bf ran counts closes =
         readings = ran.readings;
         late = ran.late;
         lates = ran.links.lates;
-        course = ran.course;
+        history = ran.history;
         broke = broke_counted t w0 w b0 b ran.links.broke white black;
       };
       by_links = played_by_links setup t w0 w b0 b before after ran.links white black closes;

@@ -4,7 +4,7 @@ use Rattle.std.specs.Prelude.{Result}
 use Rattle.std.proofs.lemmas.Option.{same_Some}
 use Rattle.io_edge.specs.Outside.{HasCause, Told, ToldLists}
 use Rattle.io_edge.specs.Starts.{Engines}
-use Rattle.hive_model.specs.Courses.{Course}
+use Rattle.hive_model.specs.Histories.{History}
 use Rattle.game_text.specs.declared.parsed.Parsed.{Parsed}
 use Rattle.command_runs.specs.Answered.{TellsNone}
 use Rattle.command_runs.specs.Asking.{IsReplayOf}
@@ -24,11 +24,11 @@ use Rattle.match_command.specs.Reads.{ReadMatchRun, typed}
 -- A game was read
 
 -- the game that was read has the type and the moves of the game under way
-same_game : (c : Course) (game : Parsed) → IsReplayOf c game → game ≡ record { game_type = c.game_type; moves = c.made }
+same_game : (c : History) (game : Parsed) → IsReplayOf c game → game ≡ record { game_type = c.game_type; moves = c.made }
 same_game c game end = λ j. record { game_type = sym end.kind j; moves = sym end.made j }
 
 -- the match was played from the game under way
-pub begun_from : (setup used : Setup) (white black : List (List ℕ)) (status : Status) (c : Course) (before after : World) → used ≡ typed setup c.game_type
+pub begun_from : (setup used : Setup) (white black : List (List ℕ)) (status : Status) (c : History) (before after : World) → used ≡ typed setup c.game_type
     → WhereTold before.sides.rest (λ input. (game : Parsed) × IsAsked input after.sides.rest game × IsReplayOf c game) → MatchRun (setup_from used c.made) status (once_read after.sides.rest before) after
     → MatchStarts status white black before.engines after.engines → ReadMatchRun setup white black status before after
 begun_from setup used white black status c before after same given played started = inl (

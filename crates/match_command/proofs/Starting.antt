@@ -81,7 +81,7 @@ played_from setup t w b from to before between after starts_two stays sent fault
         readings = p.out.readings;
         late = p.out.late;
         lates = p.out.lates;
-        course = p.out.course;
+        history = p.out.history;
         broke = λ broke. counted (p.out.broke broke);
       };
       programs = λ all e.

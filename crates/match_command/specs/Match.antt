@@ -18,7 +18,7 @@ use Rattle.match_core.specs.Fairness.{sent}
 use Rattle.match_core.specs.Plays.{joined, match_of}
 use Rattle.match_core.specs.Feeds.{IsFront}
 use Rattle.match_core.specs.Lates.{LatesAreLate}
-use Rattle.match_runner.specs.Runs.{HasTimedCourse, IsJudged, IsLate, LateIn}
+use Rattle.match_runner.specs.Runs.{HasTimedHistory, IsJudged, IsLate, LateIn}
 use Rattle.match_command.specs.Texts.{match_text}
 
 -- The match of two programs
@@ -140,7 +140,7 @@ pub record PlayedOut
       ≤ from.readings + (2 * (length t.moves - length setup.begin) + 2)
   pub late : LateIn t.verdict from.last to.last
   pub lates : LatesAreLate t
-  pub course : HasTimedCourse setup t from.last to.last
+  pub history : HasTimedHistory setup t from.last to.last
   pub broke : IsBroke t.verdict → Rose before.engine_faults after.engine_faults
 
 -- A match was played to its verdict and has this state. What its programs say determines what was

@@ -33,12 +33,12 @@ fn play_and_close<P: Spawner, C: Clock, G: Game + Drop>(
     spawner: &mut P,
 ) -> Result<ReplyText, AllocError>
     requires setup { IsSetup setup }
-    requires kind { (G.course game).game_type ≡ setup.game_type }
+    requires kind { (G.history game).game_type ≡ setup.game_type }
     requires white_fresh { IsFresh (P.Engine.read_faults white) (P.Engine.write_faults white) }
     requires black_fresh { IsFresh (P.Engine.read_faults black) (P.Engine.write_faults black) }
     ensures played { (timed : List Timed) → IfOk result (λ text. (t : MatchState)
         × (text ≡ match_text setup t)
-        × PlayedOver (setup_from setup (G.course game).made) t
+        × PlayedOver (setup_from setup (G.history game).made) t
         (wire (P.Engine.rest white) (P.Engine.written white)
         (P.Engine.read_faults white) (P.Engine.write_faults white))
         (wire (P.Engine.rest black) (P.Engine.written black)
@@ -128,11 +128,11 @@ pub fn play_match_from<P: Spawner, K: Sink, C: Clock, G: Game + Drop>(
     spawner: &mut P,
 ) -> Status
     requires setup { IsSetup setup }
-    requires kind { (G.course game).game_type ≡ setup.game_type }
+    requires kind { (G.history game).game_type ≡ setup.game_type }
     requires white_some { 0 < length white.now }
     requires black_some { 0 < length black.now }
     ensures run { (rest : Told) (timed : List Timed) →
-        MatchRun (setup_from setup (G.course game).made) result
+        MatchRun (setup_from setup (G.history game).made) result
         (world (sides rest (K.written output.old))
         (times (C.last clock.old) (C.readings clock.old) timed) (P.engines spawner.old))
         (world (sides rest (K.written output.new))

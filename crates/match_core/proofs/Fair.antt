@@ -11,7 +11,7 @@ use Rattle.hive_model.specs.Positions.{Position, opening}
 use Rattle.hive_model.specs.Games.{after, replay, AreLegal}
 use Rattle.hive_model.specs.Legal.{is_over_state, moves as legal_moves}
 use Rattle.hive_model.specs.Repetition.{outcome_under}
-use Rattle.hive_model.specs.Courses.{is_listed}
+use Rattle.hive_model.specs.Histories.{is_listed}
 use Rattle.move_text.specs.declared.faults.MoveFault.{MoveFault}
 use Rattle.hive_model.proofs.ListedLaws.{listed_on}
 use Rattle.match_core.specs.Setups.{FullSetup}

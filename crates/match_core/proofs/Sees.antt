@@ -4,7 +4,7 @@ use Rattle.std.proofs.lemmas.List.{take_at}
 use Rattle.std.specs.Prelude.{if◌then◌else◌}
 use Rattle.hive_model.specs.declared.places.Move.{Move}
 use Rattle.hive_model.specs.Keys.{key}
-use Rattle.hive_model.specs.Courses.{Course, position, with_move, without_last}
+use Rattle.hive_model.specs.Histories.{History, position, with_move, without_last}
 use Rattle.game_text.specs.declared.seen.Seen.{Seen}
 use Rattle.game_text.specs.Seen.{Sees}
 use Rattle.game_text.proofs.SeenLaws.{seen_few, sees_on}
@@ -16,13 +16,13 @@ use Rattle.match_core.specs.declared.stage.Stage.TheVariants.{Send, Read, Before
 use Rattle.match_core.specs.Keeps.{SeesBefore, SeesFor, SeesAt, IsTold, IsTelling, IsNotTold, IsSettled}
 
 -- if no move is being sent, the keys are those of all positions
-settled_for : (job : Task) (seen : Seen) (game : Course) → IsNotTold job → SeesFor job seen game → Sees seen game
+settled_for : (job : Task) (seen : Seen) (game : History) → IsNotTold job → SeesFor job seen game → Sees seen game
 settled_for Greet seen game n h = h
 settled_for Begin seen game n h = h
 settled_for Ask seen game n h = h
 settled_for (Tell told) seen game n h = absurd n
 
-pub settled : (stage : Stage) (seen : Seen) (game : Course) → IsSettled stage → SeesAt stage seen game → Sees seen game
+pub settled : (stage : Stage) (seen : Seen) (game : History) → IsSettled stage → SeesAt stage seen game → Sees seen game
 settled (Send job side) seen game n h = settled_for job seen game n h
 settled (Read job side) seen game n h = settled_for job seen game n h
 settled Before seen game n h = h
@@ -30,13 +30,13 @@ settled After seen game n h = h
 settled Finished seen game n h = absurd n
 
 -- while a move is sent, they are those of all but the last
-telling_for : (job : Task) (seen : Seen) (game : Course) → IsTold job → SeesFor job seen game → SeesBefore seen game
+telling_for : (job : Task) (seen : Seen) (game : History) → IsTold job → SeesFor job seen game → SeesBefore seen game
 telling_for Greet seen game n h = absurd n
 telling_for Begin seen game n h = absurd n
 telling_for Ask seen game n h = absurd n
 telling_for (Tell told) seen game n h = h
 
-pub telling : (stage : Stage) (seen : Seen) (game : Course) → IsTelling stage → SeesAt stage seen game → SeesBefore seen game
+pub telling : (stage : Stage) (seen : Seen) (game : History) → IsTelling stage → SeesAt stage seen game → SeesBefore seen game
 telling (Send job side) seen game n h = telling_for job seen game n h
 telling (Read job side) seen game n h = telling_for job seen game n h
 telling Before seen game n h = absurd n
@@ -52,13 +52,13 @@ last_move (m ∷ k ∷ ms) some =
     let long : length (m ∷ k ∷ ms) - 1 ≡ suc (length (k ∷ ms) - 1) = omega arith in
     (h.0, ap (λ (z : List Move). m ∷ z) h.1 ∙ ap (λ n. take n (m ∷ k ∷ ms) ++ h.0 ∷ []) (sym long))
 
-pub before_few : (seen : Seen) (game : Course) → SeesBefore seen game → length game.made ≤ 1000 → length seen.keys < 10000
+pub before_few : (seen : Seen) (game : History) → SeesBefore seen game → length game.made ≤ 1000 → length seen.keys < 10000
 before_few seen game h few =
     let size = taken_size game.made (length game.made - 1) in
     seen_few seen (without_last game) h.keys (omega (arith, few, size))
 
 -- the key of the position after the last move is kept
-pub noted : (seen new : Seen) (game : Course) → SeesBefore seen game → new.repetition ≡ seen.repetition
+pub noted : (seen new : Seen) (game : History) → SeesBefore seen game → new.repetition ≡ seen.repetition
     → new.keys ≡ (if seen.repetition then seen.keys ++ key (position game) ∷ [] else seen.keys) → Sees new game
 noted seen new game h same pushed =
     let last = last_move game.made h.made in

@@ -1,6 +1,6 @@
 -- The invariant of a referee.
 use Rattle.std.specs.Prelude.{◌≡◌, ℕ, ◌+◌, ◌%◌, unwrap_or, ◌^◌, ◌<◌, ◌≤◌, List, [], length}
-use Rattle.hive_model.specs.Courses.{Course, without_last}
+use Rattle.hive_model.specs.Histories.{History, without_last}
 use Rattle.io_edge.specs.Lines.{greatest_line}
 use Rattle.game_text.specs.declared.seen.Seen.{Seen}
 use Rattle.game_text.specs.Seen.{Sees}
@@ -61,12 +61,12 @@ FitsStage After s text = length s.moves < s.setup.limit
 FitsStage Finished s text = Unit {0}
 
 -- at least one move was made, and the kept keys are those of the positions before the last
-pub record SeesBefore (seen : Seen) (game : Course) : Type 0 where
+pub record SeesBefore (seen : Seen) (game : History) : Type 0 where
   pub made : 1 ≤ length game.made
   pub keys : Sees seen (without_last game)
 
 -- while a move is sent, the key of the position after it is not yet kept
-abbrev pub SeesFor : Task → Seen → Course → Type 0
+abbrev pub SeesFor : Task → Seen → History → Type 0
 SeesFor Greet seen game = Sees seen game
 SeesFor Begin seen game = Sees seen game
 SeesFor Ask seen game = Sees seen game
@@ -74,7 +74,7 @@ SeesFor (Tell told) seen game = SeesBefore seen game
 
 -- The kept keys are those of all positions of the game; while a move is sent, of all but the last.
 -- Nothing is said of a match that is over.
-abbrev pub SeesAt : Stage → Seen → Course → Type 0
+abbrev pub SeesAt : Stage → Seen → History → Type 0
 SeesAt (Send job side) seen game = SeesFor job seen game
 SeesAt (Read job side) seen game = SeesFor job seen game
 SeesAt Before seen game = Sees seen game
@@ -114,7 +114,7 @@ IsSettled Finished = ⊥
 -- The game has the moves of the match, the given ones included, with room for the rest, and the
 -- setup's rule of third repetition. The keys of the positions are kept, and the line to send is
 -- ready.
-pub record IsReferee (s : MatchState) (game : Course) (seen : Seen) (begin text : List ℕ)
+pub record IsReferee (s : MatchState) (game : History) (seen : Seen) (begin text : List ℕ)
     (given room : ℕ) : Type 0 where
   pub kind : game.game_type ≡ s.setup.game_type
   pub same : game.made ≡ s.moves

@@ -3,7 +3,7 @@ use Rattle.std.specs.Prelude.{ℕ, ◌≤◌, Bool, List, [], length}
 use Rattle.hive_model.specs.declared.pieces.GameType.{GameType}
 use Rattle.hive_model.specs.declared.places.Move.{Move}
 use Rattle.hive_model.specs.Games.{IsGame}
-use Rattle.hive_model.specs.Courses.{most_plies}
+use Rattle.hive_model.specs.Histories.{most_plies}
 use Rattle.match_core.specs.declared.setup.Setup.{Setup}
 use Rattle.match_core.specs.declared.setup.Level.{Level}
 

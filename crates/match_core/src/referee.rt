@@ -66,13 +66,13 @@ impl<G: Game> Model for Referee<G> {
 
     ghost Value = { MatchState };
 
-    ghost view = { λ r. match_state (setup_from r.setup (take r.given (G.course r.game).made))
-        (G.course r.game).made r.stage r.asked r.first r.count r.verdict };
+    ghost view = { λ r. match_state (setup_from r.setup (take r.given (G.history r.game).made))
+        (G.history r.game).made r.stage r.asked r.first r.count r.verdict };
 
     ghost invariant = { λ r. IsReferee (match_state
-        (setup_from r.setup (take r.given (G.course r.game).made)) (G.course r.game).made r.stage
+        (setup_from r.setup (take r.given (G.history r.game).made)) (G.history r.game).made r.stage
         r.asked r.first r.count r.verdict)
-        (G.course r.game) r.seen r.begin r.text.items r.given (vec_capacity r.text) };
+        (G.history r.game) r.seen r.begin r.text.items r.given (vec_capacity r.text) };
 }
 
 impl<G: Game + Drop> Referee<G> {
@@ -93,12 +93,12 @@ impl<G: Game + Drop> Referee<G> {
     /// none.
     pub fn from_game(alloc: Global, setup: Setup, game: G) -> Result<Referee<G>, AllocError>
         requires setup { IsSetup setup }
-        requires kind { (G.course game).game_type ≡ setup.game_type }
-        ensures start { IfOk result (λ r. r ≡ start (setup_from setup (G.course game).made)) }
-        ensures begin { IsBegin (setup_from setup (G.course game).made) }
+        requires kind { (G.history game).game_type ≡ setup.game_type }
+        ensures start { IfOk result (λ r. r ≡ start (setup_from setup (G.history game).made)) }
+        ensures begin { IsBegin (setup_from setup (G.history game).made) }
     {
         let mut game = game;
-        game.is_sound();
+        game.lemma_sound();
         let given = game.plies();
         let text = Vec::with_capacity(alloc, 64)?;
         game.reserve(setup.limit.saturating_sub(given))?;
@@ -113,13 +113,13 @@ impl<G: Game + Drop> Referee<G> {
         text: Vec<u8>,
     ) -> Result<Referee<G>, AllocError>
         requires setup { IsSetup setup }
-        requires kind { (G.course game).game_type ≡ setup.game_type }
-        requires spare { setup.limit ≤ length (G.course game).made + (G.course game).spare }
+        requires kind { (G.history game).game_type ≡ setup.game_type }
+        requires spare { setup.limit ≤ length (G.history game).made + (G.history game).spare }
         requires empty { text.items ≡ [] }
         requires room { most_sent ≤ vec_capacity text }
-        ensures { IfOk result (λ r. r ≡ start (setup_from setup (G.course game).made)) }
+        ensures { IfOk result (λ r. r ≡ start (setup_from setup (G.history game).made)) }
     {
-        game.is_sound();
+        game.lemma_sound();
         let begin = begin_line(alloc, setup, &game)?;
         let seen = seen_under(alloc, &game, setup.repetition)?;
         Ok(Referee::begun(alloc, setup, game, begin, seen, text))
@@ -135,14 +135,14 @@ impl<G: Game + Drop> Referee<G> {
         text: Vec<u8>,
     ) -> Referee<G>
         requires setup { IsSetup setup }
-        requires kind { (G.course game).game_type ≡ setup.game_type }
-        requires spare { setup.limit ≤ length (G.course game).made + (G.course game).spare }
-        requires begin { begin ≡ begin_line (setup_from setup (G.course game).made) }
+        requires kind { (G.history game).game_type ≡ setup.game_type }
+        requires spare { setup.limit ≤ length (G.history game).made + (G.history game).spare }
+        requires begin { begin ≡ begin_line (setup_from setup (G.history game).made) }
         requires rule { seen.repetition ≡ setup.repetition }
-        requires sees { Sees seen (G.course game) }
+        requires sees { Sees seen (G.history game) }
         requires empty { text.items ≡ [] }
         requires room { most_sent ≤ vec_capacity text }
-        ensures { result ≡ start (setup_from setup (G.course game).made) }
+        ensures { result ≡ start (setup_from setup (G.history game).made) }
     {
         let given = game.plies();
         Referee {
@@ -203,8 +203,8 @@ impl<G: Game + Drop> Referee<G> {
 
     /// The game so far.
     pub fn game(&self) -> &G
-        ensures moves { (G.course result.now).made ≡ self.now.moves }
-        ensures kind { (G.course result.now).game_type ≡ self.now.setup.game_type }
+        ensures moves { (G.history result.now).made ≡ self.now.moves }
+        ensures kind { (G.history result.now).game_type ≡ self.now.setup.game_type }
     {
         &self.game
     }

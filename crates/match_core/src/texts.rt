@@ -1,7 +1,7 @@
 //! The lines that are sent, and the move that a line denotes.
 ghost use Rattle.std.specs.Prelude.{◌≡◌, ◌+◌, ◌≤◌, ◌++◌, length, vec_len, vec_capacity, IfOk};
 ghost use Rattle.std.specs.Prelude.{OnOk};
-ghost use Rattle.hive_model.specs.Courses.{position};
+ghost use Rattle.hive_model.specs.Histories.{position};
 ghost use Rattle.hive_model.specs.Legal.{moves};
 ghost use Rattle.hive_model.specs.Lists.{IsOn};
 ghost use Rattle.io_edge.specs.Lines.{greatest_line};
@@ -21,10 +21,10 @@ use std::alloc::{AllocError, Global};
 #[tactic(auto, unfolding(crate::specs::Texts::read_of))]
 pub(crate) fn read_line<G: Game>(game: &G, line: &[u8]) -> Result<Move, MoveFault>
     requires { length line.now ≤ greatest_line }
-    ensures { result ≡ read_of (G.course game.now).game_type (position (G.course game.now)).board
+    ensures { result ≡ read_of (G.history game.now).game_type (position (G.history game.now)).board
         line.now }
 {
-    game.is_sound();
+    game.lemma_sound();
     read_move(game.game_type(), game, line)
 }
 
@@ -46,9 +46,9 @@ fn push_game<G: Game + Drop>(
     game: &G,
     line: &mut ReplyText,
 ) -> Result<(), AllocError>
-    requires { (G.course game.now).game_type ≡ setup.game_type }
+    requires { (G.history game.now).game_type ≡ setup.game_type }
     ensures { OnOk result (line.new ≡ line.old ++ begin_text setup.game_type
-        (G.course game.now).made) }
+        (G.history game.now).made) }
 {
     if game.plies() == 0 {
         line.push_all(type_text(setup.game_type).as_bytes())
@@ -64,8 +64,8 @@ pub(crate) fn begin_line<G: Game + Drop>(
     setup: Setup,
     game: &G,
 ) -> Result<ReplyText, AllocError>
-    requires { (G.course game.now).game_type ≡ setup.game_type }
-    ensures { IfOk result (λ t. t ≡ begin_line (setup_from setup (G.course game.now).made)) }
+    requires { (G.history game.now).game_type ≡ setup.game_type }
+    ensures { IfOk result (λ t. t ≡ begin_line (setup_from setup (G.history game.now).made)) }
 {
     let mut line = ReplyText::new(alloc);
     line.push_all(b"newgame ")?;
@@ -100,12 +100,12 @@ pub(crate) fn write_ask(text: &mut Vec<u8>, level: Level)
 /// The line that sends a legal move, before it is made.
 #[tactic(auto, unfolding(crate::specs::Texts::tell_line))]
 pub(crate) fn write_tell<G: Game>(text: &mut Vec<u8>, game: &G, m: Move)
-    requires legal { IsOn (moves (position (G.course game.now))) m }
+    requires legal { IsOn (moves (position (G.history game.now))) m }
     requires room { most_sent ≤ vec_capacity text.old }
-    ensures text { text.new.items ≡ tell_line (position (G.course game.now)) m }
+    ensures text { text.new.items ≡ tell_line (position (G.history game.now)) m }
     ensures room { most_sent ≤ vec_capacity text.new }
 {
-    game.is_sound();
+    game.lemma_sound();
     text.clear();
     match m {
         Move::Pass => put(text, b"pass\n"),

@@ -3,7 +3,7 @@ use Rattle.hive_model.specs.declared.pieces.Colour.{Colour}
 use Rattle.hive_model.specs.declared.pieces.Colour.TheVariants.{White, Black}
 use Rattle.hive_model.specs.declared.places.Move.{Move}
 use Rattle.hive_model.specs.Legal.{is_over_state}
-use Rattle.hive_model.specs.Courses.{is_listed}
+use Rattle.hive_model.specs.Histories.{is_listed}
 use Rattle.move_text.specs.declared.faults.MoveFault.{MoveFault}
 use Rattle.match_core.specs.Setups.{FullSetup}
 use Rattle.match_core.specs.declared.setup.Level.{Level}

@@ -12,7 +12,7 @@ use Rattle.match_runner.specs.Wires.{HasFailed, Watch, Wire}
 use Rattle.match_runner.specs.Turns.{Side, HasCauses, LeavesClock, Turns, looks_at, side_of}
 use Rattle.match_runner.specs.Runs.{FinalRun, Ran, RanOver, Run}
 use Rattle.match_runner.proofs.Causes.{broke_final}
-use Rattle.match_runner.proofs.Courses.{course_final, late_run_final, lates_final, timed_final}
+use Rattle.match_runner.proofs.Histories.{history_final, late_run_final, lates_final, timed_final}
 use Rattle.match_runner.proofs.Fronting.{front_final}
 use Rattle.match_runner.proofs.Judged.{final_judged}
 use Rattle.match_runner.proofs.Lates.{late_final}
@@ -43,12 +43,12 @@ ran_over setup t w0 w b0 b r0 r is final = record {
     front = front_final setup t w0 w b0 b r0 r is final;
     verdict = verdict_run setup t w0 w b0 b r0 r is final;
     told = told_run setup t w0 w b0 b r0 r is final;
-    course = course_final setup t w0 w b0 b r0 r final;
+    history = history_final setup t w0 w b0 b r0 r final;
     lates = lates_final setup t w0 w b0 b r0 r final;
     late = late_run_final setup t w0 w b0 b r0 r is final;
   };
   late = late_final setup t w0 w b0 b r0 r is final;
-  course = timed_final setup t w0 w b0 b r0 r final;
+  history = timed_final setup t w0 w b0 b r0 r final;
   readings = read_final setup t w0 w b0 b r0 r final;
 }
 

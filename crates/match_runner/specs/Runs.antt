@@ -201,18 +201,18 @@ VerdictRun setup t w0 w b0 b =
     w0 w b0 b
 
 -- the events of a match of this setup that led to this state: each answers the next act
-pub record IsCourse (setup : FullSetup) (t : MatchState) (hs : List Happening) : Type 0 where
+pub record IsHistory (setup : FullSetup) (t : MatchState) (hs : List Happening) : Type 0 where
   pub here : t ≡ match_after setup hs
   pub fits : Answering (start setup) hs
 
 -- some events lead a match of this setup to this state
-abbrev pub HasCourse : FullSetup → MatchState → Type 0
-HasCourse setup t = (hs : List Happening) × IsCourse setup t hs
+abbrev pub HasHistory : FullSetup → MatchState → Type 0
+HasHistory setup t = (hs : List Happening) × IsHistory setup t hs
 
 -- the same, for the readings of a clock whose last ones before and after the match are these
-abbrev pub HasTimedCourse : FullSetup → MatchState → ℕ → ℕ → Type 0
-HasTimedCourse setup t before now =
-    (hs : List Happening) × IsCourse setup t hs × KeepTime before hs now
+abbrev pub HasTimedHistory : FullSetup → MatchState → ℕ → ℕ → Type 0
+HasTimedHistory setup t before now =
+    (hs : List Happening) × IsHistory setup t hs × KeepTime before hs now
 
 -- The moves, and the bytes sent to each side, are those of the match of these lines up to a reply.
 -- The last line of that reply was read, and next the clock is read.
@@ -246,7 +246,7 @@ pub record RanLinks (setup : FullSetup) (t : MatchState) (w0 w b0 b : Wire) : Ty
   pub front : FrontRun setup t w0 w b0 b
   pub verdict : VerdictRun setup t w0 w b0 b
   pub told : ToldRun setup t w0 w b0 b
-  pub course : HasCourse setup t
+  pub history : HasHistory setup t
   pub lates : LatesAreLate t
   pub late : LateRun setup t w0 w b0 b
 
@@ -257,6 +257,6 @@ pub record RanOver
   pub events : FinalRun setup t w0 w b0 b r0 r
   pub links : RanLinks setup t w0 w b0 b
   pub late : LateIn t.verdict r0.last r.last
-  pub course : HasTimedCourse setup t r0.last r.last
+  pub history : HasTimedHistory setup t r0.last r.last
   pub readings : r.readings
       ≤ r0.readings + (2 * (length t.moves - length setup.begin) + 2)

@@ -4,7 +4,7 @@ ghost use Rattle.audit_core.specs.Keeps.{IsPlan};
 use crate::engines::BASE;
 use crate::seen::{expect_seen, expect_sent};
 use audit_command::audit_engine;
-use audit_core::Plan;
+use audit_core::AuditPlan;
 use command_runs::Status;
 use fast_game::FastGame;
 use io_edge::{MemSink, MemSpawner};
@@ -41,7 +41,7 @@ const UNGREETED: &[u8] = b"game 1 ply 0 Base;NotStarted;White[1] ended\n\
     audited 1 games 0 positions 0 moves, 1 findings\n";
 
 /// Three games of the type Base.
-const THREE_GAMES: Plan = Plan {
+const THREE_GAMES: AuditPlan = AuditPlan {
     games: 3,
     first: 1,
     seed: 0,
@@ -52,7 +52,7 @@ const THREE_GAMES: Plan = Plan {
 };
 
 /// The same with a limit on the wait for an answer.
-const PATIENTLY: Plan = Plan {
+const PATIENTLY: AuditPlan = AuditPlan {
     games: 3,
     first: 1,
     seed: 0,
@@ -63,7 +63,7 @@ const PATIENTLY: Plan = Plan {
 };
 
 /// Two games from the fourth on, of any types.
-const FROM_THE_FOURTH: Plan = Plan {
+const FROM_THE_FOURTH: AuditPlan = AuditPlan {
     games: 2,
     first: 4,
     seed: 0,
@@ -86,7 +86,11 @@ const TOLD_FROM_THE_FOURTH: &[u8] = b"game 4 ply 0 Base+ML;NotStarted;White[1] e
     audited 2 games 0 positions 0 moves, 2 findings\n";
 
 /// Audits the program with this setting.
-fn audit(alloc: Global, engine: MemSetting<'_>, plan: Plan) -> Result<Played<Status>, AllocError>
+fn audit(
+    alloc: Global,
+    engine: MemSetting<'_>,
+    plan: AuditPlan,
+) -> Result<Played<Status>, AllocError>
     requires { IsPlan plan }
 {
     let words = owned_words(alloc, &["engine"])?;

@@ -42,7 +42,7 @@ pub fn mark_separating<B: Board, L: Ledger>(board: &B, steps: &mut Steps<L>) -> 
     ensures step { steps.new ≡ steps.old + 1 }
 {
     steps.tick();
-    board.is_board();
+    board.lemma_board();
     let mut places = PlaceList::new();
     separating_places(board, &mut places);
     tops_of(board, &places)

@@ -104,7 +104,7 @@ pub fn walk_parts<B: Board, L: Ledger>(board: &B, place: Place, steps: &mut Step
     ensures step { steps.new ≡ steps.old + 1 }
 {
     steps.tick();
-    board.is_board();
+    board.lemma_board();
     let taken = board.neighbours(place);
     match dir_amid(taken) {
         Some(dir) => {

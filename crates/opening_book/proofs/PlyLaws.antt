@@ -14,7 +14,7 @@ use Rattle.hive_model.specs.Positions.{Position}
 use Rattle.hive_model.specs.Games.{after}
 use Rattle.hive_model.specs.Keys.{KeyParts, key}
 use Rattle.std.proofs.lemmas.Option.{get_or_from_slice_get}
-use Rattle.hive_model.specs.Courses.{Course, position, without_last}
+use Rattle.hive_model.specs.Histories.{History, position, without_last}
 use Rattle.hive_model.specs.Positions.{opening}
 use Rattle.hive_model.specs.Games.{replay}
 use Rattle.hive_model.proofs.GetLemmas.{same_options, get-take, get_exists}
@@ -119,13 +119,13 @@ replay_more p (x ∷ ms) m = replay_more (after p x) ms m
 
 -- the game before its last move, after i plies were undone
 
-pub record IsStep (whole now back : Course) (i : ℕ) (n : Move) : Type 0 where
+pub record IsStep (whole now back : History) (i : ℕ) (n : Move) : Type 0 where
   pub game_type : back.game_type ≡ whole.game_type
   pub made : back.made ≡ take (length whole.made - (i + 1)) whole.made
   pub position_is : position now ≡ after (position back) n
   pub rest : drop (length whole.made - (i + 1)) whole.made ≡ n ∷ drop (length whole.made - i) whole.made
 
-pub stepped : (whole now back : Course) (i count : ℕ) (n : Move) → count ≡ length whole.made → i < count → now.game_type ≡ whole.game_type
+pub stepped : (whole now back : History) (i count : ℕ) (n : Move) → count ≡ length whole.made → i < count → now.game_type ≡ whole.game_type
     → now.made ≡ take (length whole.made - i) whole.made → slice_get now.made (count - 1 - i) ≡ Some n → back ≡ without_last now → IsStep whole now back i n
 stepped whole now back i count n many low kind made e is =
     let k = length whole.made - (i + 1) in
@@ -137,8 +137,8 @@ stepped whole now back i count n many low kind made e is =
     let long = length-append (take k whole.made) (n ∷ []) in
     let front : length (take k whole.made ++ n ∷ []) - 1 ≡ length (take k whole.made) = omega (arith, long) in
     let left : back.made ≡ take k whole.made =
-    ap (λ (c : Course). c.made) is ∙ ap (λ ms. take (length ms - 1) ms) ends ∙ ap (λ j. take j (take k whole.made ++ n ∷ [])) front ∙ take_front (take k whole.made) (n ∷ []) in
-    let type_is : back.game_type ≡ now.game_type = ap (λ (c : Course). c.game_type) is in
+    ap (λ (c : History). c.made) is ∙ ap (λ ms. take (length ms - 1) ms) ends ∙ ap (λ j. take j (take k whole.made ++ n ∷ [])) front ∙ take_front (take k whole.made) (n ∷ []) in
+    let type_is : back.game_type ≡ now.game_type = ap (λ (c : History). c.game_type) is in
     record {
       game_type = type_is ∙ kind;
       made = left;

@@ -6,4 +6,4 @@
 mod plies;
 mod tally;
 
-pub use tally::Tally;
+pub use tally::MoveTally;

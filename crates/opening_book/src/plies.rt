@@ -23,14 +23,14 @@ pub fn count_plies<G: Game>(root: &Key, moves: &[Move], counts: &mut [u64], play
     ensures counted { (p : Position) → IsBoard p.board → root.now ≡ key p
         → (j : ℕ) (m : Move) → slice_get moves.now j ≡ Some m
         → slice_index counts.new j ≡ slice_index counts.old j
-        + line_count p m (opening (G.course played.old).game_type) (G.course played.old).made }
+        + line_count p m (opening (G.history played.old).game_type) (G.history played.old).made }
     ensures bound { (j : ℕ) → j < length counts.old
-        → slice_index counts.new j ≤ slice_index counts.old j + length (G.course played.old).made }
-    ensures game_type { (G.course played.new).game_type ≡ (G.course played.old).game_type }
-    ensures opening { (G.course played.new).made ≡ [] }
+        → slice_index counts.new j ≤ slice_index counts.old j + length (G.history played.old).made }
+    ensures game_type { (G.history played.new).game_type ≡ (G.history played.old).game_type }
+    ensures opening { (G.history played.new).made ≡ [] }
 {
     // establishes that the game leads to a board
-    played.is_sound();
+    played.lemma_sound();
     let count = played.plies();
     for i in 0..count {
         let m = played.move_at(count - 1 - i);

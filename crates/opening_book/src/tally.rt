@@ -17,7 +17,7 @@ ghost use Rattle.std.specs.Prelude.{
 ghost use Rattle.std.specs.Prelude.{Some, List};
 ghost use Rattle.hive_model.specs.Positions.{Position};
 ghost use Rattle.hive_model.specs.Legal.{is_over};
-ghost use Rattle.hive_model.specs.Courses.{position};
+ghost use Rattle.hive_model.specs.Histories.{position};
 ghost use Rattle.hive_model.specs.Stack.{level_of};
 ghost use Rattle.opening_book.specs.Book.{BookGame, IsTally, IsBook};
 ghost use Rattle.opening_book.specs.Plies.{IsMost};
@@ -30,14 +30,14 @@ use std::marker::Model;
 /// How often each legal move of a position was made in the games that were added. Its memory does
 /// not grow with the games.
 #[derive(Drop)]
-pub struct Tally {
+pub struct MoveTally {
     key: Key,
     moves: Vec<Move>,
     counts: Vec<u64>,
     plies: u64,
 }
 
-impl Model for Tally {
+impl Model for MoveTally {
     ghost use Rattle.opening_book.specs.Book.{Counts, IsKept};
 
     ghost Value = { Counts };
@@ -48,18 +48,18 @@ impl Model for Tally {
     ghost invariant = { λ t. IsKept t.moves.items t.counts.items t.plies };
 }
 
-impl Tally {
+impl MoveTally {
     /// The counts for the game's position over no games. The game is not over. The stack needs room
     /// for one level. Game and stack are as before. All memory is taken here.
     pub fn of<G: Game>(
         alloc: Global,
         game: &mut G,
         stack: &mut MoveStack,
-    ) -> Result<Tally, AllocError>
-        requires open { is_over (position (G.course game.old)) ≡ false }
+    ) -> Result<MoveTally, AllocError>
+        requires open { is_over (position (G.history game.old)) ≡ false }
         requires room { 1 ≤ stack.old.free }
-        ensures tally { IfOk result (λ t. IsTally (position (G.course game.old)) [] t) }
-        ensures game { G.course game.new ≡ G.course game.old }
+        ensures tally { IfOk result (λ t. IsTally (position (G.history game.old)) [] t) }
+        ensures game { G.history game.new ≡ G.history game.old }
         ensures stack { stack.new ≡ stack.old }
     {
         let key = game.key();
@@ -69,7 +69,7 @@ impl Tally {
         stack.drop_level();
         let moves = moves?;
         let counts = Vec::from_elem(alloc, 0, moves.len())?;
-        Ok(Tally {
+        Ok(MoveTally {
             key,
             moves,
             counts,
@@ -80,16 +80,16 @@ impl Tally {
     /// Adds the plies of a played game, finished or not, and takes it back to its opening. The
     /// caller ensures that fewer than 2 to the power 40 plies are then counted in all.
     pub fn add<G: Game>(&mut self, played: &mut G)
-        requires { self.old.plies + length (G.course played.old).made < 2 ^ 40 }
+        requires { self.old.plies + length (G.history played.old).made < 2 ^ 40 }
         ensures added { (p : Position) (games : List BookGame) → IsTally p games self.old
             → IsTally p (games ++ record {
-              game_type = (G.course played.old).game_type;
-              made = (G.course played.old).made;
+              game_type = (G.history played.old).game_type;
+              made = (G.history played.old).made;
             } ∷ [])
             self.new }
-        ensures plies { self.new.plies ≡ self.old.plies + length (G.course played.old).made }
-        ensures game_type { (G.course played.new).game_type ≡ (G.course played.old).game_type }
-        ensures opening { (G.course played.new).made ≡ [] }
+        ensures plies { self.new.plies ≡ self.old.plies + length (G.history played.old).made }
+        ensures game_type { (G.history played.new).game_type ≡ (G.history played.old).game_type }
+        ensures opening { (G.history played.new).made ≡ [] }
     {
         let plies = played.plies();
         count_plies(

@@ -7,7 +7,7 @@ use Rattle.hive_model.specs.Positions.{Position}
 use Rattle.hive_model.specs.Legal.{moves}
 use Rattle.hive_model.specs.Games.{after}
 use Rattle.hive_model.specs.Minimax.{lines}
-use Rattle.hive_model.specs.Courses.{Course, position, with_move}
+use Rattle.hive_model.specs.Histories.{History, position, with_move}
 use Rattle.search_laws.proofs.LoopLaws.{drop-at}
 use Rattle.search_laws.proofs.NodesLaws.{lines-one, lines-next}
 use Rattle.plain_search.proofs.PlySteps.{behind}
@@ -54,22 +54,22 @@ count-none p d none = sym (lines-one p) ∙ ap (lines p) (sym none)
 
 -- Behind a move
 
-pub behind-few : (start played : Course) (m : Move) (n : ℕ) → played ≡ with_move start m → length (position start).board + 2 * n + 2 ≤ 44 →
+pub behind-few : (start played : History) (m : Move) (n : ℕ) → played ≡ with_move start m → length (position start).board + 2 * n + 2 ≤ 44 →
     length (position played).board + 2 * n ≤ 44
 behind-few start played m n moved few =
     let same : length (position played).board ≡ length (after (position start) m).board = ap (λ (p : Position). length p.board) (behind start played m moved) in
     omega (arith, same, after-few (position start) m, few)
 
-pub behind-count : (start played : Course) (m : Move) (n r : ℕ) → played ≡ with_move start m → r ≡ lines (position played) n → r ≡ lines (after (position start) m) n
+pub behind-count : (start played : History) (m : Move) (n r : ℕ) → played ≡ with_move start m → r ≡ lines (position played) n → r ≡ lines (after (position start) m) n
 behind-count start played m n r moved is = is ∙ ap (λ (p : Position). lines p n) (behind start played m moved)
 
 -- from the game now to the game at the start
 
-pub count-now : (start now : Course) (m : Move) (n r : ℕ) → now ≡ start → r ≡ lines (after (position now) m) n → r ≡ lines (after (position start) m) n
-count-now start now m n r same is = subst (λ (g : Course). r ≡ lines (after (position g) m) n) same is
+pub count-now : (start now : History) (m : Move) (n r : ℕ) → now ≡ start → r ≡ lines (after (position now) m) n → r ≡ lines (after (position start) m) n
+count-now start now m n r same is = subst (λ (g : History). r ≡ lines (after (position g) m) n) same is
 
-pub few-now : (start now : Course) (n : ℕ) → now ≡ start → length (position start).board + 2 * n ≤ 44 → 0 < n →
+pub few-now : (start now : History) (n : ℕ) → now ≡ start → length (position start).board + 2 * n ≤ 44 → 0 < n →
     length (position now).board + 2 * (n - 1) + 2 ≤ 44
 few-now start now n same few deep =
-    let e : length (position now).board ≡ length (position start).board = ap (λ (g : Course). length (position g).board) same in
+    let e : length (position now).board ≡ length (position start).board = ap (λ (g : History). length (position g).board) same in
     omega (arith, e, few, deep)

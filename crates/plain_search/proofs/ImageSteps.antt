@@ -10,7 +10,7 @@ use Rattle.hive_model.specs.Legal.{moves}
 use Rattle.hive_model.specs.Games.{IsGame, after}
 use Rattle.hive_model.specs.Minimax.{lines}
 use Rattle.hive_model.specs.Keys.{KeyParts, key}
-use Rattle.hive_model.specs.Courses.{Course, position}
+use Rattle.hive_model.specs.Histories.{History, position}
 use Rattle.hive_model.proofs.Floods.{on_append}
 use Rattle.hive_model.proofs.GetLemmas.{on-at}
 use Rattle.rule_laws.proofs.Games.{games_sound}
@@ -23,7 +23,7 @@ use Rattle.plain_search.specs.declared.images.Known.{Known}
 use Rattle.plain_search.specs.Known.{AreKnown, AreSymmetriesOf}
 
 -- as many lists follow a legal move as follow an image that is known
-pub image-count : (game : Course) (own : List OwnSymmetry) (known slice : List Known) (m : Move) (n count plies : ℕ) → IsGame game.game_type game.made → plies ≡ length game.made
+pub image-count : (game : History) (own : List OwnSymmetry) (known slice : List Known) (m : Move) (n count plies : ℕ) → IsGame game.game_type game.made → plies ≡ length game.made
     → plies ≤ 5064 → n < 8 → AreSymmetriesOf (position game) own → AreKnown (position game) n known → IsOn (moves (position game)) m → slice ≡ known
     → (o : OwnSymmetry) × IsOn own o × IsOn slice (record { moved = move_by o.symmetry o.shift m; count = count }) → count ≡ lines (after (position game) m) n
 image-count game own known slice m n count plies is all_plies short low are all legal same (o, on, there) =
@@ -68,11 +68,11 @@ pub again-count : (p : Position) (m again : Move) (n count : ℕ) → again ≡ 
 again-count p m again n count same is = subst (λ (z : Move). count ≡ lines (after p z) n) same is
 
 -- from the game now to the game at the start
-pub known-now : (start now : Course) (n : ℕ) (known : List Known) → now ≡ start → AreKnown (position now) n known → AreKnown (position start) n known
-known-now start now n known same all = subst (λ (g : Course). AreKnown (position g) n known) same all
+pub known-now : (start now : History) (n : ℕ) (known : List Known) → now ≡ start → AreKnown (position now) n known → AreKnown (position start) n known
+known-now start now n known same all = subst (λ (g : History). AreKnown (position g) n known) same all
 
 -- and back
-pub known-then : (start now : Course) (n : ℕ) (known : List Known) → now ≡ start → AreKnown (position start) n known → AreKnown (position now) n known
+pub known-then : (start now : History) (n : ℕ) (known : List Known) → now ≡ start → AreKnown (position start) n known → AreKnown (position now) n known
 known-then start now n known same all = known-now now start n known (sym same) all
 
 -- the symmetries that the key of a position has are its own
@@ -83,6 +83,6 @@ pub own-none : (p : Position) (own : List OwnSymmetry) → own ≡ [] → AreSym
 own-none p own none o on = absurd (subst (λ es. IsOn es o) none on)
 
 -- the position is that at the start
-pub own-then : (start now : Course) (own items : List OwnSymmetry) → now ≡ start → items ≡ own → AreSymmetriesOf (position start) own → AreSymmetriesOf (position now) items
+pub own-then : (start now : History) (own items : List OwnSymmetry) → now ≡ start → items ≡ own → AreSymmetriesOf (position start) own → AreSymmetriesOf (position now) items
 own-then start now own items same is all =
-    subst (λ (es : List OwnSymmetry). AreSymmetriesOf (position now) es) (sym is) (subst (λ (g : Course). AreSymmetriesOf (position g) own) (sym same) all)
+    subst (λ (es : List OwnSymmetry). AreSymmetriesOf (position now) es) (sym is) (subst (λ (g : History). AreSymmetriesOf (position g) own) (sym same) all)

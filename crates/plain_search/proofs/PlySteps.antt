@@ -3,10 +3,10 @@ use Rattle.std.proofs.Common.{◌≡◌, ℕ, ◌-◌, ◌≤◌, ◌<◌, List,
 use Rattle.hive_model.specs.declared.places.Move.{Move}
 use Rattle.hive_model.specs.Games.{after}
 use Rattle.hive_model.specs.Stack.{Levels, with_level}
-use Rattle.hive_model.specs.Courses.{Course, position, with_move}
-use Rattle.search_laws.proofs.CourseLaws.{position-with_move}
+use Rattle.hive_model.specs.Histories.{History, position, with_move}
+use Rattle.search_laws.proofs.HistoryLaws.{position-with_move}
 
-pub behind : (start played : Course) (m : Move) → played ≡ with_move start m → position played ≡ after (position start) m
+pub behind : (start played : History) (m : Move) → played ≡ with_move start m → position played ≡ after (position start) m
 behind start played m moved = ap position moved ∙ position-with_move start m
 
 -- levels for the plies after this one
@@ -16,5 +16,5 @@ levels-left s s1 old ms d same listed room =
     omega (arith, e, room)
 
 -- plies for which there is room before a move and after it
-pub spare-before : (now start : Course) (d : ℕ) → now ≡ start → d ≤ start.spare → 0 < d → d - 1 < now.spare
-spare-before now start d same room deep = let e : now.spare ≡ start.spare = ap (λ (g : Course). g.spare) same in omega (arith, e, room, deep)
+pub spare-before : (now start : History) (d : ℕ) → now ≡ start → d ≤ start.spare → 0 < d → d - 1 < now.spare
+spare-before now start d same room deep = let e : now.spare ≡ start.spare = ap (λ (g : History). g.spare) same in omega (arith, e, room, deep)

@@ -12,7 +12,7 @@ use Rattle.hive_model.specs.Positions.{Position}
 use Rattle.plain_search.specs.declared.replies.Counted.{Counted}
 use Rattle.plain_search.specs.Replies.{IsPlainPlacement, HasReplies, AreCounted}
 use Rattle.hive_model.specs.Minimax.{lines}
-use Rattle.hive_model.specs.Courses.{Course, position}
+use Rattle.hive_model.specs.Histories.{History, position}
 use Rattle.plain_search.proofs.CountSteps.{count-one}
 use Rattle.plain_search.proofs.PlacedLaws.{same_replies}
 
@@ -34,8 +34,8 @@ counted-more p old new q n known one more i e at = elim (more i e at) [
 
 -- from the game now to the game at the start
 
-pub counted-now : (start now : Course) (es : List Counted) → now ≡ start → AreCounted (position now) es → AreCounted (position start) es
-counted-now start now es same known = subst (λ (h : Course). AreCounted (position h) es) same known
+pub counted-now : (start now : History) (es : List Counted) → now ≡ start → AreCounted (position now) es → AreCounted (position start) es
+counted-now start now es same known = subst (λ (h : History). AreCounted (position h) es) same known
 
-pub replies-now : (start now : Course) (m : Move) (n : ℕ) → now ≡ start → n ≡ length (moves (after (position now) m)) → n ≡ lines (after (position start) m) 1
-replies-now start now m n same is = count-one (after (position start) m) 1 n refl (is ∙ ap (λ (h : Course). length (moves (after (position h) m))) same)
+pub replies-now : (start now : History) (m : Move) (n : ℕ) → now ≡ start → n ≡ length (moves (after (position now) m)) → n ≡ lines (after (position start) m) 1
+replies-now start now m n same is = count-one (after (position start) m) 1 n refl (is ∙ ap (λ (h : History). length (moves (after (position h) m))) same)

@@ -3,7 +3,7 @@
 ghost use Rattle.std.specs.Prelude.{◌≡◌, ◌+◌, ◌*◌, ◌<◌, ◌≤◌, length};
 ghost use Rattle.hive_model.specs.Games.{after};
 ghost use Rattle.hive_model.specs.Minimax.{lines};
-ghost use Rattle.hive_model.specs.Courses.{position};
+ghost use Rattle.hive_model.specs.Histories.{position};
 ghost use Rattle.search_laws.specs.Nodes.{HasRoom, CanReply, AreAsBefore};
 ghost use Rattle.plain_search.specs.Known.{AreKnown, AreSymmetriesOf};
 
@@ -22,14 +22,14 @@ pub fn count_lines<G: Game>(
     counts: &mut MoveCounts,
 ) -> u128
     requires few { plies ≤ 8 }
-    requires spare { plies ≤ (G.course game.old).spare }
+    requires spare { plies ≤ (G.history game.old).spare }
     requires room { plies ≤ stack.old.free }
-    ensures count { result ≡ lines (position (G.course game.old)) plies }
-    ensures game { G.course game.new ≡ G.course game.old }
+    ensures count { result ≡ lines (position (G.history game.old)) plies }
+    ensures game { G.history game.new ≡ G.history game.old }
     ensures stack { stack.new ≡ stack.old }
 {
     // the game is sound, so that at most 28 places of its board are occupied
-    game.is_sound();
+    game.lemma_sound();
     lines_from(game, plies, stack, counts)
 }
 
@@ -43,10 +43,10 @@ fn lines_from<G: Game>(
     counts: &mut MoveCounts,
 ) -> u128
     requires deep { plies ≤ 8 }
-    requires few { length (position (G.course game.old)).board + 2 * plies ≤ 44 }
-    requires room { HasRoom plies (G.course game.old) stack.old }
-    ensures count { result ≡ lines (position (G.course game.old)) plies }
-    ensures before { AreAsBefore (G.course game.old) (G.course game.new) stack.old stack.new }
+    requires few { length (position (G.history game.old)).board + 2 * plies ≤ 44 }
+    requires room { HasRoom plies (G.history game.old) stack.old }
+    ensures count { result ≡ lines (position (G.history game.old)) plies }
+    ensures before { AreAsBefore (G.history game.old) (G.history game.new) stack.old stack.new }
 {
     if plies == 0 {
         return 1;
@@ -86,18 +86,18 @@ fn lines_once<G: Game>(
     known: &mut KnownLines,
 ) -> u128
     requires deep { plies < 8 }
-    requires few { length (position (G.course game.old)).board + 2 * plies + 2 ≤ 44 }
-    requires can { CanReply m plies (G.course game.old) stack.old }
-    requires own { AreSymmetriesOf (position (G.course game.old)) own.now }
-    requires known { AreKnown (position (G.course game.old)) plies known.old.items }
-    ensures count { result ≡ lines (after (position (G.course game.old)) m) plies }
-    ensures before { AreAsBefore (G.course game.old) (G.course game.new) stack.old stack.new }
-    ensures known { AreKnown (position (G.course game.old)) plies known.new.items }
+    requires few { length (position (G.history game.old)).board + 2 * plies + 2 ≤ 44 }
+    requires can { CanReply m plies (G.history game.old) stack.old }
+    requires own { AreSymmetriesOf (position (G.history game.old)) own.now }
+    requires known { AreKnown (position (G.history game.old)) plies known.old.items }
+    ensures count { result ≡ lines (after (position (G.history game.old)) m) plies }
+    ensures before { AreAsBefore (G.history game.old) (G.history game.new) stack.old stack.new }
+    ensures known { AreKnown (position (G.history game.old)) plies known.new.items }
 {
     if own.is_empty() {
         return lines_behind(game, m, plies, stack, counts);
     }
-    game.is_sound();
+    game.lemma_sound();
     let _few = game.plies();
     if let Some(count) = known_count(own, known.as_slice(), &m) {
         return count;
@@ -117,10 +117,10 @@ fn lines_behind<G: Game>(
     counts: &mut MoveCounts,
 ) -> u128
     requires deep { plies < 8 }
-    requires few { length (position (G.course game.old)).board + 2 * plies + 2 ≤ 44 }
-    requires can { CanReply m plies (G.course game.old) stack.old }
-    ensures count { result ≡ lines (after (position (G.course game.old)) m) plies }
-    ensures before { AreAsBefore (G.course game.old) (G.course game.new) stack.old stack.new }
+    requires few { length (position (G.history game.old)).board + 2 * plies + 2 ≤ 44 }
+    requires can { CanReply m plies (G.history game.old) stack.old }
+    ensures count { result ≡ lines (after (position (G.history game.old)) m) plies }
+    ensures before { AreAsBefore (G.history game.old) (G.history game.new) stack.old stack.new }
 {
     game.play(m);
     let lines = lines_from(game, plies, stack, counts);

@@ -8,7 +8,7 @@ ghost use Rattle.hive_model.specs.Games.{after};
 ghost use Rattle.hive_model.specs.Minimax.{lines};
 ghost use Rattle.symmetry.specs.declared.own.OwnSymmetry.{OwnSymmetry as AnySymmetry};
 ghost use Rattle.symmetry.specs.Alike.{move_by, IsPlaced};
-ghost use Rattle.hive_model.specs.Courses.{position};
+ghost use Rattle.hive_model.specs.Histories.{position};
 ghost use Rattle.plain_search.specs.Known.{AreKnown, AreSymmetriesOf};
 
 use arrayvec::ArrayVec;
@@ -39,7 +39,7 @@ impl Default for Known {
 /// The symmetries, except the identity, by which the position is alike to itself, if few pieces are
 /// in play. If there are more, hardly any position has one, and none is looked for.
 pub fn symmetries_of<G: Game>(game: &G) -> OwnSymmetries
-    ensures { AreSymmetriesOf (position (G.course game.now)) result.items }
+    ensures { AreSymmetriesOf (position (G.history game.now)) result.items }
 {
     if has_few_pieces(game) {
         own_symmetries(&game.key())

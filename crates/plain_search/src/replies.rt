@@ -19,7 +19,7 @@ ghost use Rattle.hive_model.specs.Places.{IsWithin};
 ghost use Rattle.hive_model.specs.Legal.{moves};
 ghost use Rattle.hive_model.specs.Games.{after, moved};
 ghost use Rattle.hive_model.specs.Minimax.{lines};
-ghost use Rattle.hive_model.specs.Courses.{position};
+ghost use Rattle.hive_model.specs.Histories.{position};
 ghost use Rattle.search_laws.specs.Nodes.{HasRoom, AreAsBefore};
 ghost use Rattle.plain_search.specs.declared.replies.Counted.{Counted as AnyCounted};
 ghost use Rattle.plain_search.specs.Replies.{their_mosquito, IsPlainPlacement, AreCounted};
@@ -42,10 +42,10 @@ type CountedPlaces = ArrayVec<Counted, 64>;
 /// The number of lists of two legal moves that the game can go on with. The game and the stack do
 /// not change.
 pub fn lines_of_two<G: Game>(game: &mut G, stack: &mut MoveStack, counts: &mut MoveCounts) -> u128
-    requires few { length (position (G.course game.old)).board + 4 ≤ 44 }
-    requires room { HasRoom 2 (G.course game.old) stack.old }
-    ensures count { result ≡ lines (position (G.course game.old)) 2 }
-    ensures before { AreAsBefore (G.course game.old) (G.course game.new) stack.old stack.new }
+    requires few { length (position (G.history game.old)).board + 4 ≤ 44 }
+    requires room { HasRoom 2 (G.history game.old) stack.old }
+    ensures count { result ≡ lines (position (G.history game.old)) 2 }
+    ensures before { AreAsBefore (G.history game.old) (G.history game.new) stack.old stack.new }
 {
     let level = stack.levels();
     game.list(stack);
@@ -63,7 +63,7 @@ pub fn lines_of_two<G: Game>(game: &mut G, stack: &mut MoveStack, counts: &mut M
 
 /// The place of the mosquito of the side that is not to move, if it is on the board.
 fn their_mosquito<G: Game>(game: &G) -> Option<Place>
-    ensures place { result ≡ their_mosquito (position (G.course game.now)) }
+    ensures place { result ≡ their_mosquito (position (G.history game.now)) }
     ensures within { IfSome result (λ r. IsWithin 9000 r) }
 {
     let Some(mosquito) = Piece::new(game.side().other(), Kind::Mosquito, 0) else {
@@ -83,14 +83,14 @@ fn replies_to<G: Game>(
     counted: &mut CountedPlaces,
     counts: &mut MoveCounts,
 ) -> u32
-    requires legal { IsOn (moves (position (G.course game.old))) m }
-    requires spare { 1 ≤ (G.course game.old).spare }
-    requires mosquito { mosquito ≡ their_mosquito (position (G.course game.old)) }
+    requires legal { IsOn (moves (position (G.history game.old))) m }
+    requires spare { 1 ≤ (G.history game.old).spare }
+    requires mosquito { mosquito ≡ their_mosquito (position (G.history game.old)) }
     requires within { ForSome mosquito (λ r. IsWithin 9000 r) }
-    requires known { AreCounted (position (G.course game.old)) counted.old.items }
-    ensures count { result ≡ length (moves (after (position (G.course game.old)) m)) }
-    ensures game { G.course game.new ≡ G.course game.old }
-    ensures known { AreCounted (position (G.course game.old)) counted.new.items }
+    requires known { AreCounted (position (G.history game.old)) counted.old.items }
+    ensures count { result ≡ length (moves (after (position (G.history game.old)) m)) }
+    ensures game { G.history game.new ≡ G.history game.old }
+    ensures known { AreCounted (position (G.history game.old)) counted.new.items }
 {
     if let Move::To { piece, place } = m {
         if is_plain(game, piece, place, mosquito) {
@@ -103,9 +103,9 @@ fn replies_to<G: Game>(
 /// Whether the piece is in hand and not a queen, and the place is not beside the other side's
 /// mosquito.
 fn is_plain<G: Game>(game: &G, piece: Piece, place: Place, mosquito: Option<Place>) -> bool
-    requires mosquito { mosquito ≡ their_mosquito (position (G.course game.now)) }
+    requires mosquito { mosquito ≡ their_mosquito (position (G.history game.now)) }
     requires within { ForSome mosquito (λ r. IsWithin 9000 r) }
-    ensures { IsTrue result → IsPlainPlacement (position (G.course game.now)) piece place }
+    ensures { IsTrue result → IsPlainPlacement (position (G.history game.now)) piece place }
 {
     if piece.kind().is(Kind::Queen) {
         return false;
@@ -128,19 +128,19 @@ fn replies_to_plain<G: Game>(
     counted: &mut CountedPlaces,
     counts: &mut MoveCounts,
 ) -> u32
-    requires legal { IsOn (moves (position (G.course game.old))) (Move.To piece place) }
-    requires spare { 1 ≤ (G.course game.old).spare }
-    requires plain { IsPlainPlacement (position (G.course game.old)) piece place }
-    requires known { AreCounted (position (G.course game.old)) counted.old.items }
-    ensures count { result ≡ length (moves (after (position (G.course game.old))
+    requires legal { IsOn (moves (position (G.history game.old))) (Move.To piece place) }
+    requires spare { 1 ≤ (G.history game.old).spare }
+    requires plain { IsPlainPlacement (position (G.history game.old)) piece place }
+    requires known { AreCounted (position (G.history game.old)) counted.old.items }
+    ensures count { result ≡ length (moves (after (position (G.history game.old))
         (Move.To piece place))) }
-    ensures game { G.course game.new ≡ G.course game.old }
-    ensures known { AreCounted (position (G.course game.old)) counted.new.items }
+    ensures game { G.history game.new ≡ G.history game.old }
+    ensures known { AreCounted (position (G.history game.old)) counted.new.items }
 {
     if let Some(replies) = replies_known(counted.as_slice(), place) {
         return replies;
     }
-    game.is_sound();
+    game.lemma_sound();
     let replies = replies_after(game, Move::To { piece, place }, counts);
     note(counted, place, replies);
     replies
@@ -171,10 +171,10 @@ fn note(counted: &mut CountedPlaces, place: Place, replies: u32)
 /// The number of replies to a legal move: counted after it, or looked up if the position was met
 /// before.
 fn replies_after<G: Game>(game: &mut G, m: Move, counts: &mut MoveCounts) -> u32
-    requires legal { IsOn (moves (position (G.course game.old))) m }
-    requires spare { 1 ≤ (G.course game.old).spare }
-    ensures count { result ≡ length (moves (after (position (G.course game.old)) m)) }
-    ensures game { G.course game.new ≡ G.course game.old }
+    requires legal { IsOn (moves (position (G.history game.old))) m }
+    requires spare { 1 ≤ (G.history game.old).spare }
+    ensures count { result ≡ length (moves (after (position (G.history game.old)) m)) }
+    ensures game { G.history game.new ≡ G.history game.old }
 {
     game.play(m.again());
     let replies = count_once(game, &m, counts);
@@ -185,9 +185,9 @@ fn replies_after<G: Game>(game: &mut G, m: Move, counts: &mut MoveCounts) -> u32
 /// The number of legal moves after this move, looked up if a position with the same key was met
 /// before. The game does not change.
 fn count_once<G: Game>(game: &mut G, m: &Move, counts: &mut MoveCounts) -> u32
-    requires { (position (G.course game.old)).rest ≡ moved m.now }
-    ensures count { result ≡ length (moves (position (G.course game.old))) }
-    ensures game { G.course game.new ≡ G.course game.old }
+    requires { (position (G.history game.old)).rest ≡ moved m.now }
+    ensures count { result ≡ length (moves (position (G.history game.old))) }
+    ensures game { G.history game.new ≡ G.history game.old }
 {
     let Move::To { piece, .. } = *m else {
         return game.count_moves();
@@ -197,7 +197,7 @@ fn count_once<G: Game>(game: &mut G, m: &Move, counts: &mut MoveCounts) -> u32
     }
     let key = count_key(game, piece);
     let place = counts.place_of(&key);
-    game.is_sound();
+    game.lemma_sound();
     if let Some(known) = counts.look(place, &key) {
         return known;
     }

@@ -2,7 +2,7 @@
 
 ghost use Rattle.std.specs.Prelude.{◌≡◌};
 ghost use Rattle.hive_model.specs.Minimax.{value, reply_value};
-ghost use Rattle.hive_model.specs.Courses.{position};
+ghost use Rattle.hive_model.specs.Histories.{position};
 ghost use Rattle.search_laws.specs.Nodes.{HasRoom, CanReply, AreAsBefore};
 
 use hive_model::{Game, Move, MoveStack};
@@ -16,9 +16,9 @@ const LOWEST: i32 = -1_000_100;
 /// value of the position itself. The game and the stack do not change.
 #[cycle(minimax)]
 pub fn minimax<G: Game>(game: &mut G, depth: u32, stack: &mut MoveStack) -> i32
-    requires room { HasRoom depth (G.course game.old) stack.old }
-    ensures worth { result ≡ value (position (G.course game.old)) depth }
-    ensures before { AreAsBefore (G.course game.old) (G.course game.new) stack.old stack.new }
+    requires room { HasRoom depth (G.history game.old) stack.old }
+    ensures worth { result ≡ value (position (G.history game.old)) depth }
+    ensures before { AreAsBefore (G.history game.old) (G.history game.new) stack.old stack.new }
 {
     if let Some(worth) = leaf_value(game, depth) {
         return worth;
@@ -38,9 +38,9 @@ pub fn minimax<G: Game>(game: &mut G, depth: u32, stack: &mut MoveStack) -> i32
 /// The value of a legal move for the side that makes it, with `depth` plies searched after it.
 #[cycle(minimax)]
 fn reply<G: Game>(game: &mut G, m: Move, depth: u32, stack: &mut MoveStack) -> i32
-    requires can { CanReply m depth (G.course game.old) stack.old }
-    ensures worth { result ≡ reply_value (position (G.course game.old)) depth m }
-    ensures before { AreAsBefore (G.course game.old) (G.course game.new) stack.old stack.new }
+    requires can { CanReply m depth (G.history game.old) stack.old }
+    ensures worth { result ≡ reply_value (position (G.history game.old)) depth m }
+    ensures before { AreAsBefore (G.history game.old) (G.history game.new) stack.old stack.new }
 {
     game.play(m);
     let worth = minimax(game, depth, stack);

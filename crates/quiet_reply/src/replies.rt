@@ -48,7 +48,10 @@ fn any_brought<B: Board>(board: &B, turn: &Turn) -> Option<Piece>
 }
 
 /// Whether the side's queen is in hand or has an empty neighbour.
-#[tactic(auto, using(hive_model::proofs::PlaceLemmas::wider, hive_model::proofs::PlaceLemmas::wider_on_board))]
+#[tactic(auto, using(
+    hive_model::proofs::PlaceLemmas::wider,
+    hive_model::proofs::PlaceLemmas::wider_on_board
+))]
 fn is_open<B: Board>(board: &B, side: Colour) -> bool
     ensures { IsTrue result → is_surrounded (B.stacks board.now) side ≡ false }
 {
@@ -72,7 +75,7 @@ pub fn quiet_reply<B: Board>(board: &B, turn: &Turn, hint: Option<Place>) -> Opt
     if !is_open(board, Colour::Black) {
         return None;
     }
-    board.is_board();
+    board.lemma_board();
     let piece = any_brought(board, turn)?;
     let _number = piece.index();
     find_quiet(board, turn.side, hint)

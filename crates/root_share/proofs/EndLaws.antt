@@ -12,9 +12,9 @@ use Rattle.hive_model.specs.Positions.{Position}
 use Rattle.hive_model.specs.Legal.{moves, state, is_over, is_over_state}
 use Rattle.hive_model.specs.Games.{after}
 use Rattle.hive_model.specs.Minimax.{end_value, value, reply_value}
-use Rattle.hive_model.specs.Courses.{Course, position, with_move}
+use Rattle.hive_model.specs.Histories.{History, position, with_move}
 use Rattle.search_laws.specs.Laws.{IsSmall}
-use Rattle.search_laws.proofs.CourseLaws.{position-with_move}
+use Rattle.search_laws.proofs.HistoryLaws.{position-with_move}
 use Rattle.search_laws.proofs.MinimaxLaws.{IsSmall-neg, wider, eval-within, value-within, value-open, value-at_end, value-fits}
 use Rattle.search_laws.proofs.ReplyLaws.{top-there, reply-at}
 use Rattle.root_share.specs.Run.{child_values}
@@ -30,13 +30,13 @@ goes-on WhiteWins Black d e = absurd (cc)
 goes-on BlackWins White d e = absurd (cc)
 goes-on BlackWins Black d e = absurd (cc)
 
-pub open-behind : (start played : Course) (m : Move) (s : State) (side : Colour) (d : ℕ) → played ≡ with_move start m → s ≡ state (position played) → None ≡ end_value s side d →
+pub open-behind : (start played : History) (m : Move) (s : State) (side : Colour) (d : ℕ) → played ≡ with_move start m → s ≡ state (position played) → None ≡ end_value s side d →
     is_over (after (position start) m) ≡ false
 open-behind start played m s side d moved is e =
     let at : position played ≡ after (position start) m = ap position moved ∙ position-with_move start m in
     subst (λ (p : Position). is_over p ≡ false) at (ap is_over_state (sym is) ∙ goes-on s side d e)
 
-pub end-behind : (start played : Course) (m : Move) (s : State) (side : Colour) (d : ℕ) (v : ℤ) → played ≡ with_move start m → s ≡ state (position played) → side ≡ (position played).side →
+pub end-behind : (start played : History) (m : Move) (s : State) (side : Colour) (d : ℕ) (v : ℤ) → played ≡ with_move start m → s ≡ state (position played) → side ≡ (position played).side →
     Some v ≡ end_value s side d → v ≡ value (after (position start) m) d
 end-behind start played m s side d v moved is turn e =
     let at : position played ≡ after (position start) m = ap position moved ∙ position-with_move start m in

@@ -10,7 +10,7 @@ use Rattle.hive_model.specs.declared.places.Move.{Move}
 use Rattle.hive_model.specs.Positions.{Position}
 use Rattle.hive_model.specs.Legal.{moves}
 use Rattle.hive_model.specs.Minimax.{value, reply_value}
-use Rattle.hive_model.specs.Courses.{Course, position}
+use Rattle.hive_model.specs.Histories.{History, position}
 use Rattle.atomic_table.specs.declared.shared.Seat.{Seat}
 use Rattle.root_share.specs.Run.{first_bound}
 use Rattle.root_share.specs.declared.work.Child.{Child}
@@ -32,23 +32,23 @@ pub known-none : (p : Position) (d : ℕ) (g : ℤ) (behind : ℕ) → length (m
 known-none p d g behind past m here = absurd (let k = slice_get_within (moves p) behind m here in omega (arith, k, past))
 
 -- game and searcher have not changed, and a seat knows the same
-pub ready-still : (p q : Position) (k known depth : ℕ) (game later : Course) (n more : ℕ) → IsReady p k depth game n → q ≡ p → known ≡ depth → later ≡ game → more ≡ n → IsReady q known depth later more
+pub ready-still : (p q : Position) (k known depth : ℕ) (game later : History) (n more : ℕ) → IsReady p k depth game n → q ≡ p → known ≡ depth → later ≡ game → more ≡ n → IsReady q known depth later more
 ready-still p q k known depth game later n more old at agreed same kept = record {
   stands = at ∙ old.stands ∙ sym (ap position same);
   agreed = agreed;
   inner = rw at old.inner;
   deep = old.deep;
-  spare = omega (arith, ap (λ (h : Course). h.spare) same, old.spare);
+  spare = omega (arith, ap (λ (h : History). h.spare) same, old.spare);
   enough = omega (arith, kept, old.enough);
 }
 
 -- the same of a worker that can take children
-pub begin-still : {G T : Type 0} (course : G → Course) (work : RootWork G T) (worker after : Worker G) (seat next : Seat (Unit {0}) Known) → MayBegin course work worker seat →
-    IsSeat work.word.now.table_id next → next.me.0.root ≡ seat.me.0.root → next.me.0.depth ≡ work.depth → course after.game ≡ course worker.game → after.searcher ≡ worker.searcher →
-    MayBegin course work after next
-begin-still course work worker after seat next may seated root agreed same kept = record {
+pub begin-still : {G T : Type 0} (history : G → History) (work : RootWork G T) (worker after : Worker G) (seat next : Seat (Unit {0}) Known) → MayBegin history work worker seat →
+    IsSeat work.word.now.table_id next → next.me.0.root ≡ seat.me.0.root → next.me.0.depth ≡ work.depth → history after.game ≡ history worker.game → after.searcher ≡ worker.searcher →
+    MayBegin history work after next
+begin-still history work worker after seat next may seated root agreed same kept = record {
   seated = seated;
-  ready = ready-still seat.me.0.root next.me.0.root seat.me.0.depth next.me.0.depth work.depth (course worker.game) (course after.game) worker.searcher after.searcher may.ready root agreed same kept;
+  ready = ready-still seat.me.0.root next.me.0.root seat.me.0.depth next.me.0.depth work.depth (history worker.game) (history after.game) worker.searcher after.searcher may.ready root agreed same kept;
   listed = rw root may.listed;
   some = may.some;
 }
@@ -64,15 +64,15 @@ pub depth-of : {v : Known} {p : Position} {d : ℕ} {b : ℤ} {n : ℕ} → v �
 depth-of e = ap (λ (w : Known). w.depth) e
 
 -- a move of the list is legal if the game has not changed
-pub legal-still : (start now : Course) (i : ℕ) (m : Move) → now ≡ start → slice_get (moves (position start)) i ≡ Some m → IsOn (moves (position now)) m
-legal-still start now i m same here = subst (λ (h : Course). IsOn (moves (position h)) m) (sym same) (on-at (moves (position start)) i m here)
+pub legal-still : (start now : History) (i : ℕ) (m : Move) → now ≡ start → slice_get (moves (position start)) i ≡ Some m → IsOn (moves (position now)) m
+legal-still start now i m same here = subst (λ (h : History). IsOn (moves (position h)) m) (sym same) (on-at (moves (position start)) i m here)
 
 -- the depth to be searched, known to a seat that has read the bound
-pub depth-known : (p : Position) (k depth : ℕ) (game : Course) (n : ℕ) (v : Known) → IsReady p k depth game n → v.root ≡ p → v.depth ≡ k → IsDepth v.root v.depth depth
+pub depth-known : (p : Position) (k depth : ℕ) (game : History) (n : ℕ) (v : Known) → IsReady p k depth game n → v.root ≡ p → v.depth ≡ k → IsDepth v.root v.depth depth
 depth-known p k depth game n v ready at agreed = record { inner = rw at ready.inner; agreed = agreed ∙ ready.agreed; deep = ready.deep }
 
 -- a worker that is ready can search after a child
-pub may-search : (p : Position) (k depth : ℕ) (game : Course) (n : ℕ) (child : Child) (m : Move) → IsReady p k depth game n → IsChild p child → m ≡ child.m → MaySearch game n m (depth - 1)
+pub may-search : (p : Position) (k depth : ℕ) (game : History) (n : ℕ) (child : Child) (m : Move) → IsReady p k depth game n → IsChild p child → m ≡ child.m → MaySearch game n m (depth - 1)
 may-search p k depth game n child m ready here same =
     let some = ready.inner.deep in
     record {

@@ -2,7 +2,7 @@
 use Rattle.std.proofs.Common.{◌≡◌, ◌∙◌, arith, ℤ, ◌≤ℤ◌, Option}
 use Rattle.std.proofs.lemmas.Int.{ints}
 use Rattle.atomic_table.specs.declared.shared.Seat.{Seat}
-use Rattle.root_share.specs.declared.beside.Tried.TheVariants.{Closed}
+use Rattle.root_share.specs.declared.beside.TriedBeside.TheVariants.{Closed}
 use Rattle.root_share.specs.declared.candidate.Candidate.{Candidate}
 use Rattle.root_share.specs.declared.work.Child.{Child}
 use Rattle.root_share.specs.declared.work.RootWork.{RootWork}

@@ -5,7 +5,7 @@ use Rattle.hive_model.specs.Positions.{Position}
 use Rattle.hive_model.specs.Lists.{IsOn}
 use Rattle.hive_model.specs.Legal.{moves}
 use Rattle.hive_model.specs.Minimax.{value, reply_value, IsInner}
-use Rattle.hive_model.specs.Courses.{Course, position}
+use Rattle.hive_model.specs.Histories.{History, position}
 use Rattle.root_share.specs.declared.work.Child.{Child}
 use Rattle.root_share.specs.Run.{first_bound}
 
@@ -19,7 +19,7 @@ child_worth root depth child = reply_value root (depth - 1) child.m
 
 -- This many plies can be searched after a move. The move is legal in the game's position, and the
 -- game and the searcher have room for the plies, 63 at most.
-pub record MaySearch (game : Course) (prepared : ℕ) (m : Move) (depth : ℕ) : Type 0 where
+pub record MaySearch (game : History) (prepared : ℕ) (m : Move) (depth : ℕ) : Type 0 where
   pub legal : IsOn (moves (position game)) m
   pub deep : depth < 64
   pub spare : depth < game.spare

@@ -4,8 +4,8 @@ use Rattle.std.specs.declared.option.Option.{Option}
 use Rattle.atomic_table.specs.declared.shared.Seat.{Seat}
 use Rattle.hive_model.specs.declared.places.Move.{Move}
 use Rattle.hive_model.specs.Positions.{Position}
-use Rattle.root_share.specs.declared.beside.Tried.{Tried}
-use Rattle.root_share.specs.declared.beside.Tried.TheVariants.{Closed, Left}
+use Rattle.root_share.specs.declared.beside.TriedBeside.{TriedBeside}
+use Rattle.root_share.specs.declared.beside.TriedBeside.TheVariants.{Closed, Left}
 use Rattle.root_share.specs.declared.candidate.Candidate.{Candidate}
 use Rattle.root_share.specs.declared.work.Child.{Child}
 use Rattle.root_share.specs.declared.work.RootWork.{RootWork}
@@ -30,13 +30,13 @@ pub record IsClosed {G T : Type 0} (work : RootWork G T) (child : Child) (bound 
 -- A worker has tried the child that it begins with, and has left or closed it. The seat still knows
 -- the root, and a bound that is no lower than before.
 pub record HasTried {G T : Type 0} (work : RootWork G T) (child : Child)
-    (seat later : Seat (Unit {0}) Known) (tried : Tried) : Type 0 where
+    (seat later : Seat (Unit {0}) Known) (tried : TriedBeside) : Type 0 where
   pub knows : KeepsRoot work seat later
   pub came : IsTried seat.me.0.root work.depth child.place later.me.0.top tried
   pub grows : seat.me.0.top ≤ℤ later.me.0.top
 
 -- The plays that the first child of a worker may cost. If it was closed, a move that seems to win
 -- may have been played before it.
-abbrev pub first_cost : Position → ℕ → Move → ℤ → Tried → ℕ
+abbrev pub first_cost : Position → ℕ → Move → ℤ → TriedBeside → ℕ
 first_cost p d m bound (Closed found) = 1 + child_cost p d m bound
 first_cost p d m bound Left = child_cost p d m bound

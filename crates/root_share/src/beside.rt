@@ -5,7 +5,7 @@ ghost use Rattle.std.specs.Prelude.{◌≡◌, ◌+◌, ◌≤◌, IfSome, pos, 
 ghost use Rattle.hive_model.specs.Games.{after};
 ghost use Rattle.hive_model.specs.Minimax.{reply_value, lowest};
 ghost use Rattle.hive_model.specs.Costs.{cost};
-ghost use Rattle.hive_model.specs.Courses.{position};
+ghost use Rattle.hive_model.specs.Histories.{position};
 ghost use Rattle.root_share.specs.Word.{IsSeat};
 ghost use Rattle.root_share.specs.Answer.{tried_cost, child_cost};
 ghost use Rattle.root_share.specs.Ready.{MayTake};
@@ -21,7 +21,7 @@ use crate::worker::{Worker, close_child, settle, window_behind};
 use hive_model::{Game, Move};
 
 /// The outcome for the child that a worker began with.
-pub(crate) enum Tried {
+pub(crate) enum TriedBeside {
     /// The child is known to be worth at most the bound, and is an answer if its value was found.
     Closed { found: Option<Candidate> },
     /// The bound was raised meanwhile, and nothing is known about the child.
@@ -40,14 +40,14 @@ fn value_until_raised<G: Game>(
 ) -> Option<i32>
     requires seat { IsSeat word.now.table_id seat.old }
     requires known { seat.old.me.0.depth ≤ 64 }
-    requires child { MaySearch (G.course worker.old.game) worker.old.searcher m depth }
+    requires child { MaySearch (G.history worker.old.game) worker.old.searcher m depth }
     requires bound { IsBound bound }
     ensures tested { IfSome result
-        (IsTested (reply_value (position (G.course worker.old.game)) depth m) bound) }
+        (IsTested (reply_value (position (G.history worker.old.game)) depth m) bound) }
     ensures seat { IsSeat word.now.table_id seat.new }
     ensures view { seat.new.me.0 ≡ seat.old.me.0 }
-    ensures worker { HasPlayed G.course G.played worker.old worker.new
-        (tried_cost (position (G.course worker.old.game)) depth m bound) }
+    ensures worker { HasPlayed G.history G.played worker.old worker.new
+        (tried_cost (position (G.history worker.old.game)) depth m bound) }
 {
     let other = halve(word, seat);
     let mut bell = Bell::new(word, other, bound);
@@ -70,22 +70,22 @@ pub(crate) fn try_beside<G: Game, T>(
     child: &Child,
     seat: &mut BoundSeat,
     worker: &mut Worker<G>,
-) -> Tried
-    requires may { MayTake G.course work.now child.now worker.old seat.old }
-    ensures worker { HasPlayed G.course G.played worker.old worker.new
+) -> TriedBeside
+    requires may { MayTake G.history work.now child.now worker.old seat.old }
+    ensures worker { HasPlayed G.history G.played worker.old worker.new
         (child_cost seat.old.me.0.root work.now.depth child.now.m seat.old.me.0.top) }
     ensures tried { HasTried work.now child.now seat.old seat.new result }
 {
     let bound = look(work.word, seat);
     if bound > -1_000_090 {
         let found = close_child(work, child, bound, seat, worker);
-        return Tried::Closed { found };
+        return TriedBeside::Closed { found };
     }
     let behind = work.depth - 1;
     let left = value_until_raised(work.word, child.m.again(), behind, bound, seat, worker);
     let Some(worth) = left else {
-        return Tried::Left;
+        return TriedBeside::Left;
     };
     let found = settle(work, child, bound, worth, seat);
-    Tried::Closed { found }
+    TriedBeside::Closed { found }
 }

@@ -20,8 +20,8 @@ fn list_root<G: Game>(workers: &mut [Worker<G>], root: &mut MoveStack)
     requires some { 0 < length workers.old }
     requires empty { root.old.lists ≡ [] }
     requires free { 1 ≤ root.old.free }
-    ensures listed { root.new.lists ≡ moves (root_at G.course workers.old) ∷ [] }
-    ensures kept { AreAsBefore G.course workers.old workers.new }
+    ensures listed { root.new.lists ≡ moves (root_at G.history workers.old) ∷ [] }
+    ensures kept { AreAsBefore G.history workers.old workers.new }
     ensures played { plays_of G.played workers.new ≡ plays_of G.played workers.old }
 {
     workers[0].game.list(root);
@@ -46,11 +46,11 @@ pub fn best_shared<R: Threads + Sync, G: Game + Send, T: Gate + Sync>(
 ) -> Result<Best, AllocError>
     requires depth { 1 ≤ depth }
     requires deep { depth ≤ 64 }
-    requires workers { CanSearch G.course depth workers.old }
-    ensures first { IfOk result (λ b. best (root_at G.course workers.old) depth ≡ Some b.best) }
-    ensures worth { IfOk result (λ b. b.value ≡ value (root_at G.course workers.old) depth) }
-    ensures kept { AreAsBefore G.course workers.old workers.new }
-    ensures played { PlaysWithin (root_at G.course workers.old) depth (length workers.old) 0
+    requires workers { CanSearch G.history depth workers.old }
+    ensures first { IfOk result (λ b. best (root_at G.history workers.old) depth ≡ Some b.best) }
+    ensures worth { IfOk result (λ b. b.value ≡ value (root_at G.history workers.old) depth) }
+    ensures kept { AreAsBefore G.history workers.old workers.new }
+    ensures played { PlaysWithin (root_at G.history workers.old) depth (length workers.old) 0
         (plays_of G.played workers.old) (plays_of G.played workers.new) }
     ensures unplayed { OnErr result
         (plays_of G.played workers.new ≡ plays_of G.played workers.old) }

@@ -28,8 +28,8 @@ pub fn run_parts<R: Threads + Sync, G: Game + Send, T: Gate + Sync>(
     seat: &mut BoundSeat,
     workers: &mut [Worker<G>],
 ) -> Option<Candidate>
-    requires may { MayRun G.course team.now.work from seat.old workers.old }
-    ensures ran { HaveRun G.course G.played team.now.work from seat.old seat.new workers.old
+    requires may { MayRun G.history team.now.work from seat.old workers.old }
+    ensures ran { HaveRun G.history G.played team.now.work from seat.old seat.new workers.old
         workers.new result }
 {
     if workers.len() == 1 {
@@ -53,11 +53,11 @@ fn run_halves<R: Threads + Sync, G: Game + Send, T: Gate + Sync>(
     front: &mut [Worker<G>],
     back: &mut [Worker<G>],
 ) -> (Option<Candidate>, Option<Candidate>)
-    requires front { MayRun G.course team.now.work from seat.old front.old }
-    requires back { MayRun G.course team.now.work (from + length front.old) other.old back.old }
-    ensures front { HaveRun G.course G.played team.now.work from seat.old seat.new front.old
+    requires front { MayRun G.history team.now.work from seat.old front.old }
+    requires back { MayRun G.history team.now.work (from + length front.old) other.old back.old }
+    ensures front { HaveRun G.history G.played team.now.work from seat.old seat.new front.old
         front.new result.0 }
-    ensures back { HaveRun G.course G.played team.now.work (from + length front.old) other.old
+    ensures back { HaveRun G.history G.played team.now.work (from + length front.old) other.old
         other.new back.old back.new result.1 }
 {
     let up = from + front.len() as u32;
@@ -65,14 +65,14 @@ fn run_halves<R: Threads + Sync, G: Game + Send, T: Gate + Sync>(
         team.rt,
         &mut || -> Option<Candidate>
             requires { IsSync R.row × IsSync T.row × IsSend G.row
-                × MayRun G.course team.now.work from seat.now front.now }
-            ensures { HaveRun G.course G.played team.entry.now.work from seat.entry.now
+                × MayRun G.history team.now.work from seat.now front.now }
+            ensures { HaveRun G.history G.played team.entry.now.work from seat.entry.now
                 seat.exit.now front.entry.now front.exit.now result }
         { run_parts(team, from, seat, front) },
         &mut || -> Option<Candidate>
             requires { IsSync R.row × IsSync T.row × IsSend G.row
-                × MayRun G.course team.now.work up other.now back.now }
-            ensures { HaveRun G.course G.played team.entry.now.work up other.entry.now
+                × MayRun G.history team.now.work up other.now back.now }
+            ensures { HaveRun G.history G.played team.entry.now.work up other.entry.now
                 other.exit.now back.entry.now back.exit.now result }
         { run_parts(team, up, other, back) },
     )

@@ -3,7 +3,7 @@
 ghost use Rattle.std.specs.Prelude.{◌≡◌, ◌+◌, ◌≤◌, [], ◌∷◌, ◌≤ℤ◌, IfSome};
 ghost use Rattle.hive_model.specs.Legal.{moves};
 ghost use Rattle.hive_model.specs.Minimax.{value};
-ghost use Rattle.hive_model.specs.Courses.{position};
+ghost use Rattle.hive_model.specs.Histories.{position};
 ghost use Rattle.root_share.specs.Word.{IsReply};
 ghost use Rattle.root_share.specs.Taken.{KeepsRoot};
 ghost use Rattle.root_share.specs.Ready.{MayBegin};
@@ -21,10 +21,10 @@ use search_core::likely_win;
 fn likely_end<G: Game>(game: &mut G, root: &MoveStack, depth: u32) -> Option<i32>
     requires some { 1 ≤ depth }
     requires deep { depth ≤ 64 }
-    requires spare { 1 ≤ (G.course game.old).spare }
-    requires listed { root.now.lists ≡ moves (position (G.course game.old)) ∷ [] }
-    ensures reply { IfSome result (IsReply (position (G.course game.old)) depth) }
-    ensures game { G.course game.new ≡ G.course game.old }
+    requires spare { 1 ≤ (G.history game.old).spare }
+    requires listed { root.now.lists ≡ moves (position (G.history game.old)) ∷ [] }
+    ensures reply { IfSome result (IsReply (position (G.history game.old)) depth) }
+    ensures game { G.history game.new ≡ G.history game.old }
     ensures played { G.played game.new ≤ G.played game.old + 1 }
 {
     let Some(place) = likely_win(game, root, 0) else {
@@ -45,12 +45,12 @@ pub(crate) fn look_for_win<G: Game, T>(
     seat: &mut BoundSeat,
     worker: &mut Worker<G>,
 ) -> i32
-    requires begin { MayBegin G.course work.now worker.old seat.old }
+    requires begin { MayBegin G.history work.now worker.old seat.old }
     ensures seat { KeepsRoot work.now seat.old seat.new }
     ensures top { seat.new.me.0.top ≡ result }
     ensures grows { seat.old.me.0.top ≤ℤ result }
     ensures most { result ≤ℤ value seat.old.me.0.root work.now.depth }
-    ensures worker { HasPlayed G.course G.played worker.old worker.new 1 }
+    ensures worker { HasPlayed G.history G.played worker.old worker.new 1 }
 {
     let bound = look(work.word, seat);
     if bound >= 1_000_000 + (work.depth - 1) as i32 {

@@ -3,7 +3,7 @@
 ghost use Rattle.std.specs.Prelude.{◌≡◌, ◌+◌, ◌≤◌, false, IfOk, ◌≤ℤ◌};
 ghost use Rattle.std.specs.Int.{int_max};
 ghost use Rattle.hive_model.specs.Minimax.{value, IsInner};
-ghost use Rattle.hive_model.specs.Courses.{position};
+ghost use Rattle.hive_model.specs.Histories.{position};
 ghost use Rattle.root_share.specs.Run.{first_bound};
 ghost use Rattle.root_share.specs.Word.{known, looked, has_raised, fresh, both, IsSeat, IsReply};
 
@@ -45,13 +45,13 @@ pub struct Rule<G> {
 }
 
 impl<G: Game> TableRule<(), View, Root<G>> for Rule<G> {
-    ghost use Rattle.hive_model.specs.Courses.{position};
+    ghost use Rattle.hive_model.specs.Histories.{position};
     ghost use Rattle.root_share.specs.Run.{first_bound};
     ghost use Rattle.root_share.specs.Word.{Keeps, known};
 
-    ghost holds = { λ r. Keeps (position (G.course r.game.value)) r.depth };
+    ghost holds = { λ r. Keeps (position (G.history r.game.value)) r.depth };
 
-    ghost first = { λ r. known (position (G.course r.game.value)) r.depth first_bound 0 };
+    ghost first = { λ r. known (position (G.history r.game.value)) r.depth first_bound 0 };
 }
 
 /// A seat reads the bound.
@@ -113,7 +113,7 @@ pub fn begin<G: Game>(
 ) -> Result<(Board<G>, BoundSeat), AllocError>
     requires deep { depth ≤ 64 }
     ensures { IfOk result (λ t. IsSeat t.0.shared.table_id t.1
-        × (t.1.me.0 ≡ known (position (G.course game.now)) depth first_bound 0)) }
+        × (t.1.me.0 ≡ known (position (G.history game.now)) depth first_bound 0)) }
 {
     let root = Root {
         game: Snapshot::of(game),

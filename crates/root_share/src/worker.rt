@@ -5,7 +5,7 @@ ghost use Rattle.hive_model.specs.Legal.{moves};
 ghost use Rattle.hive_model.specs.Games.{after};
 ghost use Rattle.hive_model.specs.Minimax.{reply_value, lowest, highest};
 ghost use Rattle.hive_model.specs.Costs.{cost, share};
-ghost use Rattle.hive_model.specs.Courses.{position};
+ghost use Rattle.hive_model.specs.Histories.{position};
 ghost use Rattle.root_share.specs.Word.{IsSeat};
 ghost use Rattle.root_share.specs.Answer.{IsAnswer, IsKnown, tried_cost, child_cost, turns_share};
 ghost use Rattle.root_share.specs.Ready.{MayBegin, MayTake};
@@ -15,7 +15,7 @@ ghost use Rattle.root_share.specs.Taken.{KeepsRoot, IsClosed, HasTried, first_co
 ghost use Rattle.root_share.specs.Workers.{HasPlayed};
 
 use crate::behind::value_behind;
-use crate::beside::{Tried, try_beside};
+use crate::beside::{TriedBeside, try_beside};
 use crate::candidate::{Candidate, better};
 use crate::gate::Gate;
 use crate::hint::{first_child, is_ahead};
@@ -50,12 +50,12 @@ pub(crate) fn window_behind(bound: i32) -> Window
 /// The value of a child, searched, if that is at least the bound, and otherwise a number below the
 /// bound.
 fn value_searched<G: Game>(worker: &mut Worker<G>, m: Move, depth: u32, bound: i32) -> i32
-    requires child { MaySearch (G.course worker.old.game) worker.old.searcher m depth }
+    requires child { MaySearch (G.history worker.old.game) worker.old.searcher m depth }
     requires bound { IsBound bound }
-    ensures tested { IsTested (reply_value (position (G.course worker.old.game)) depth m) bound
+    ensures tested { IsTested (reply_value (position (G.history worker.old.game)) depth m) bound
         result }
-    ensures worker { HasPlayed G.course G.played worker.old worker.new
-        (tried_cost (position (G.course worker.old.game)) depth m bound) }
+    ensures worker { HasPlayed G.history G.played worker.old worker.new
+        (tried_cost (position (G.history worker.old.game)) depth m bound) }
 {
     worker.game.play(m);
     let behind = window_behind(bound);
@@ -67,12 +67,12 @@ fn value_searched<G: Game>(worker: &mut Worker<G>, m: Move, depth: u32, bound: i
 /// The value of a child if that is at least the bound, and otherwise a number below the bound. If
 /// only a child that ends the game can reach the bound, it is played but not searched.
 fn worth_of<G: Game>(worker: &mut Worker<G>, m: Move, depth: u32, bound: i32) -> i32
-    requires child { MaySearch (G.course worker.old.game) worker.old.searcher m depth }
+    requires child { MaySearch (G.history worker.old.game) worker.old.searcher m depth }
     requires bound { IsBound bound }
-    ensures tested { IsTested (reply_value (position (G.course worker.old.game)) depth m) bound
+    ensures tested { IsTested (reply_value (position (G.history worker.old.game)) depth m) bound
         result }
-    ensures worker { HasPlayed G.course G.played worker.old worker.new
-        (tried_cost (position (G.course worker.old.game)) depth m bound) }
+    ensures worker { HasPlayed G.history G.played worker.old worker.new
+        (tried_cost (position (G.history worker.old.game)) depth m bound) }
 {
     if bound >= 1_000_000 + depth as i32 {
         return value_behind(&mut worker.game, m, depth, bound);
@@ -117,9 +117,9 @@ pub(crate) fn close_child<G: Game, T>(
     worker: &mut Worker<G>,
 ) -> Option<Candidate>
     requires bound { IsLatest seat.old.me.0.root work.now.depth seat.old.me.0.top bound }
-    requires may { MayTake G.course work.now child.now worker.old seat.old }
+    requires may { MayTake G.history work.now child.now worker.old seat.old }
     ensures closed { IsClosed work.now child.now bound seat.old seat.new result }
-    ensures worker { HasPlayed G.course G.played worker.old worker.new
+    ensures worker { HasPlayed G.history G.played worker.old worker.new
         (child_cost seat.old.me.0.root work.now.depth child.now.m bound) }
 {
     let worth = worth_of(worker, child.m.again(), work.depth - 1, bound);
@@ -135,9 +135,9 @@ fn try_child<G: Game, T: Gate>(
     seat: &mut BoundSeat,
     worker: &mut Worker<G>,
 ) -> Option<Candidate>
-    requires may { MayTake G.course work.now child.now worker.old seat.old }
+    requires may { MayTake G.history work.now child.now worker.old seat.old }
     ensures closed { IsClosed work.now child.now seat.old.me.0.top seat.old seat.new result }
-    ensures worker { HasPlayed G.course G.played worker.old worker.new
+    ensures worker { HasPlayed G.history G.played worker.old worker.new
         (child_cost seat.old.me.0.root work.now.depth child.now.m seat.old.me.0.top) }
 {
     work.gate.before_child(part, child.place);
@@ -155,10 +155,10 @@ fn try_first<G: Game, T: Gate>(
     first: &Child,
     seat: &mut BoundSeat,
     worker: &mut Worker<G>,
-) -> Tried
-    requires may { MayTake G.course work.now first.now worker.old seat.old }
+) -> TriedBeside
+    requires may { MayTake G.history work.now first.now worker.old seat.old }
     ensures tried { HasTried work.now first.now seat.old seat.new result }
-    ensures worker { HasPlayed G.course G.played worker.old worker.new
+    ensures worker { HasPlayed G.history G.played worker.old worker.new
         (first_cost seat.old.me.0.root work.now.depth first.now.m seat.old.me.0.top result) }
 {
     let ahead = is_ahead(&mut worker.game, work.root, work.parts, first.place);
@@ -168,7 +168,7 @@ fn try_first<G: Game, T: Gate>(
     }
     let bound = look_for_win(work, seat, worker);
     let found = close_child(work, first, bound, seat, worker);
-    Tried::Closed { found }
+    TriedBeside::Closed { found }
 }
 
 /// Tries in order the children whose index leaves the remainder `part` when divided by the parts,
@@ -181,13 +181,13 @@ fn run_in_turn<G: Game, T: Gate>(
     seat: &mut BoundSeat,
     worker: &mut Worker<G>,
 ) -> Option<Candidate>
-    requires begin { MayBegin G.course work.now worker.old seat.old }
+    requires begin { MayBegin G.history work.now worker.old seat.old }
     requires mine { tried < length (moves seat.old.me.0.root) → tried % work.now.parts ≡ part }
     requires known { IsKnown seat.old.me.0.root work.now.depth seat.old.me.0.top tried }
     ensures seat { KeepsRoot work.now seat.old seat.new }
     ensures answer { IsAnswer seat.old.me.0.root work.now.depth
         (λ i. (i % work.now.parts ≡ part) × ¬ (i ≡ tried)) result }
-    ensures worker { HasPlayed G.course G.played worker.old worker.new
+    ensures worker { HasPlayed G.history G.played worker.old worker.new
         (turns_share seat.old.me.0.root work.now.depth part work.now.parts) }
     ensures spared { tried < length (moves seat.old.me.0.root) → G.played worker.new.game + 1
         ≤ G.played worker.old.game
@@ -222,11 +222,11 @@ pub fn run_one<G: Game, T: Gate>(
     seat: &mut BoundSeat,
     worker: &mut Worker<G>,
 ) -> Option<Candidate>
-    requires begin { MayBegin G.course work.now worker.old seat.old }
+    requires begin { MayBegin G.history work.now worker.old seat.old }
     ensures seat { KeepsRoot work.now seat.old seat.new }
     ensures answer { IsAnswer seat.old.me.0.root work.now.depth (λ i. i % work.now.parts ≡ part)
         result }
-    ensures worker { HasPlayed G.course G.played worker.old worker.new
+    ensures worker { HasPlayed G.history G.played worker.old worker.new
         (share seat.old.me.0.root work.now.depth part work.now.parts) }
 {
     let Some(place) = first_child(&mut worker.game, work.root, part, work.parts) else {
@@ -237,11 +237,11 @@ pub fn run_one<G: Game, T: Gate>(
         m: work.root.get(0, place),
     };
     match try_first(work, part, &first, seat, worker) {
-        Tried::Closed { found } => {
+        TriedBeside::Closed { found } => {
             let others = run_in_turn(work, part, place, seat, worker);
             better(found, others)
         }
-        Tried::Left => {
+        TriedBeside::Left => {
             let none = work.root.level_len(0);
             run_in_turn(work, part, none, seat, worker)
         }

@@ -39,8 +39,8 @@ impl Board for Counted<'_> {
         self.board.spot(piece)
     }
 
-    fn is_board(&self) {
-        self.board.is_board();
+    fn lemma_board(&self) {
+        self.board.lemma_board();
     }
 
     fn under(&self, piece: Piece) -> Option<Piece> {
@@ -66,13 +66,13 @@ fn is_on_top(board: &PlainBoard, piece: Piece) -> bool
 
 /// A board that is one hive, and a keeper in sync with it.
 #[derive(Drop)]
-struct Tried {
+struct KeeperTrial {
     board: PlainBoard,
     keeper: CutKeeper,
     calls: u32,
 }
 
-impl Model for Tried {
+impl Model for KeeperTrial {
     ghost use Rattle.hive_model.specs.Boards.{Stacks, IsBoard};
     ghost use Rattle.hive_model.specs.Hive.{OneHive};
     ghost use Rattle.cut_keeper.specs.Keeping.{Keeps};
@@ -84,16 +84,16 @@ impl Model for Tried {
     ghost invariant = { λ t. Keeps t.board t.keeper × IsBoard t.board × OneHive t.board };
 }
 
-impl Tried {
+impl KeeperTrial {
     /// The empty board.
-    fn new(alloc: Global) -> Result<Option<Tried>, AllocError> {
+    fn new(alloc: Global) -> Result<Option<KeeperTrial>, AllocError> {
         let board = PlainBoard::new(alloc)?;
         let keeper = CutKeeper::new();
-        board.is_board();
+        board.lemma_board();
         if !is_one(&board) {
             return Ok(None);
         }
-        Ok(Some(Tried {
+        Ok(Some(KeeperTrial {
             board,
             keeper,
             calls: 0,
@@ -102,12 +102,12 @@ impl Tried {
 
     /// The same with the piece on the place, if it was not on the board and leaves one hive. It
     /// remembers how often the keeper asked the board.
-    fn put(self, index: u8, place: Place) -> Option<Tried>
+    fn put(self, index: u8, place: Place) -> Option<KeeperTrial>
         requires small { index < 28 }
         requires within { IsWithin 9000 place }
     {
         let piece = Piece::at(index);
-        let Tried {
+        let KeeperTrial {
             mut board,
             mut keeper,
             ..
@@ -116,7 +116,7 @@ impl Tried {
             return None;
         }
         board.put(piece, place);
-        board.is_board();
+        board.lemma_board();
         if !is_one(&board) {
             return None;
         }
@@ -126,7 +126,7 @@ impl Tried {
         };
         added_uncounted(&mut keeper, &counted, piece, place);
         let calls = counted.calls.get();
-        Some(Tried {
+        Some(KeeperTrial {
             board,
             keeper,
             calls,
@@ -134,11 +134,11 @@ impl Tried {
     }
 
     /// The same without the piece, if it is on top and leaves one hive.
-    fn lifted(self, index: u8) -> Option<Tried>
+    fn lifted(self, index: u8) -> Option<KeeperTrial>
         requires { index < 28 }
     {
         let piece = Piece::at(index);
-        let Tried {
+        let KeeperTrial {
             mut board,
             mut keeper,
             calls,
@@ -147,12 +147,12 @@ impl Tried {
             return None;
         }
         let place = board.lift(piece);
-        board.is_board();
+        board.lemma_board();
         if !is_one(&board) {
             return None;
         }
         removed_uncounted(&mut keeper, &board, piece, place);
-        Some(Tried {
+        Some(KeeperTrial {
             board,
             keeper,
             calls,
@@ -165,8 +165,8 @@ impl Tried {
 }
 
 /// The board with the first pieces on these places, in turn.
-fn tried_of(alloc: Global, places: &[(i32, i32)]) -> Result<Option<Tried>, AllocError> {
-    let Some(mut tried) = Tried::new(alloc)? else {
+fn tried_of(alloc: Global, places: &[(i32, i32)]) -> Result<Option<KeeperTrial>, AllocError> {
+    let Some(mut tried) = KeeperTrial::new(alloc)? else {
         return Ok(None);
     };
     for (x, (q, r)) in places.iter().enumerate() {

@@ -10,13 +10,13 @@ use Rattle.hive_model.specs.Positions.{Position}
 use Rattle.hive_model.specs.Legal.{moves}
 use Rattle.hive_model.specs.Minimax.{reply_value}
 use Rattle.hive_model.specs.Costs.{tries_cost}
-use Rattle.hive_model.specs.Courses.{Course, position}
+use Rattle.hive_model.specs.Histories.{History, position}
 use Rattle.search_laws.specs.Tries.{tried_cost}
 use Rattle.search_laws.specs.declared.window.Window.{Window}
 use Rattle.search_laws.proofs.CostLaws.{tries-step}
 use Rattle.search_laws.proofs.TurnLaws.{PlaysWithin}
 use Rattle.search_core.specs.Times.{IsAtMost, AreAtMost}
-use Rattle.search_core.specs.declared.purse.Purse.{Purse}
+use Rattle.search_core.specs.declared.play_credit.PlayCredit.{PlayCredit}
 use Rattle.search_core.specs.Moments.{Moment, Spends}
 use Rattle.search_core.proofs.Hints.{hint-is, hint-holds}
 use Rattle.search_core.proofs.MomentLaws.{told_by}
@@ -77,9 +77,9 @@ passed-on p d most i j low = λ k m from to here. low k m (omega (arith, from)) 
 -- ---- what is spent
 
 -- a play is saved
-pub spends-saved : (a b : Moment) (n k : ℕ) (purse : Purse) → Spends n k a b → purse.early ≡ b.purse.early → purse.saved ≤ b.purse.saved + 1 → (b.purse.early ≡ true → purse.saved ≡ b.purse.saved)
-    → Spends (n + 1) (k + 1) a (record b { purse = purse })
-spends-saved a b n k purse x mode one early = record {
+pub spends-saved : (a b : Moment) (n k : ℕ) (credit : PlayCredit) → Spends n k a b → credit.early ≡ b.credit.early → credit.saved ≤ b.credit.saved + 1 → (b.credit.early ≡ true → credit.saved ≡ b.credit.saved)
+    → Spends (n + 1) (k + 1) a (record b { credit = credit })
+spends-saved a b n k credit x mode one early = record {
   before = x.before;
   often = x.often;
   time = record { deadline = x.time.deadline; later = x.time.later; seldom = omega (arith, x.time.seldom, one); never = x.time.never };
@@ -92,10 +92,10 @@ spends-saved a b n k purse x mode one early = record {
 }
 
 -- the game is the same at the end, under another name
-pub spends-to : (a b : Moment) (n k : ℕ) (course : Course) (played : ℕ) → Spends n k a b → course ≡ b.course → played ≡ b.played → Spends n k a (told_by b course played)
-spends-to a b n k course played x same count =
-    subst (λ (q : ℕ). Spends n k a (told_by b course q)) (sym count) (subst (λ (q : Course). Spends n k a (told_by b q b.played)) (sym same) x)
+pub spends-to : (a b : Moment) (n k : ℕ) (history : History) (played : ℕ) → Spends n k a b → history ≡ b.history → played ≡ b.played → Spends n k a (told_by b history played)
+spends-to a b n k history played x same count =
+    subst (λ (q : ℕ). Spends n k a (told_by b history q)) (sym count) (subst (λ (q : History). Spends n k a (told_by b q b.played)) (sym same) x)
 
 -- what is passed over in the same game
-pub passed-here : (start now : Course) (d : ℕ) (most : ℤ) (i j : ℕ) → now ≡ start → AreAtMost (position now) d most i j → AreAtMost (position start) d most i j
-passed-here start now d most i j same low = subst (λ (h : Course). AreAtMost (position h) d most i j) same low
+pub passed-here : (start now : History) (d : ℕ) (most : ℤ) (i j : ℕ) → now ≡ start → AreAtMost (position now) d most i j → AreAtMost (position start) d most i j
+passed-here start now d most i j same low = subst (λ (h : History). AreAtMost (position h) d most i j) same low

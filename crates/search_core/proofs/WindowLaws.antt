@@ -8,13 +8,13 @@ use lib.Signed.{le_z}
 use Rattle.hive_model.specs.Positions.{Position}
 use Rattle.hive_model.specs.declared.places.Move.{Move}
 use Rattle.hive_model.specs.Minimax.{value, reply_value}
-use Rattle.hive_model.specs.Courses.{Course, position}
+use Rattle.hive_model.specs.Histories.{History, position}
 use Rattle.search_laws.specs.declared.window.Window.{Window}
 use Rattle.search_laws.specs.Found.{IsFound, IsOpen}
 use Rattle.search_laws.proofs.Signs.{at-least, below}
 use Rattle.search_laws.proofs.HintLaws.{Raised, first-raised, reply-here, found-here}
 use Rattle.search_core.specs.Times.{IsAtMost, IsTriedEarly}
-use Rattle.search_core.proofs.PurseLaws.{Lifted, lifted, lifted-then, lifted-open, lifted-found, at_most-more, max-right, early-cut, tried-here}
+use Rattle.search_core.proofs.CreditLaws.{Lifted, lifted, lifted-then, lifted-open, lifted-found, at_most-more, max-right, early-cut, tried-here}
 
 -- the rest of a window, after the move at the place, which is worth no more than its lower end
 pub record Rest (p : Position) (d : ℕ) (w rest : Window) (place : Option ℕ) : Type 0 where
@@ -55,7 +55,7 @@ top-coded w v r wide fits under e =
     omega (arith, ints, clamps, is, wide.open_, wide.alpha, wide.beta, under)
 
 -- what is left of a window after an early try that did not reach the upper end
-pub rest-after : (start now : Course) (d : ℕ) (w : Window) (v r : ℤ) (place : Option ℕ) → now ≡ start → IsOpen w → SFits w32 v
+pub rest-after : (start now : History) (d : ℕ) (w : Window) (v r : ℤ) (place : Option ℕ) → now ≡ start → IsOpen w → SFits w32 v
     → r ≡ int_max (to_z w32 (of_z w32 w.alpha)) (to_z w32 (of_z w32 v)) → le_z (to_z w32 (of_z w32 w.beta)) (to_z w32 (of_z w32 v)) ≡ false
     → IsTriedEarly (position now) d w v place → Rest (position start) d w (record { alpha = to_z w32 (of_z w32 r); beta = to_z w32 (of_z w32 w.beta) }) place
 rest-after start now d w v r place same wide fits e test tried =
@@ -80,12 +80,12 @@ rest-then p d w inner rest one two x y = record {
 }
 
 -- what was found about the rest holds of the window
-pub rest-found : (start now : Course) (d : ℕ) (w rest : Window) (place : Option ℕ) (r : ℤ) → now ≡ start → w.alpha <ℤ w.beta → Rest (position start) d w rest place
+pub rest-found : (start now : History) (d : ℕ) (w rest : Window) (place : Option ℕ) (r : ℤ) → now ≡ start → w.alpha <ℤ w.beta → Rest (position start) d w rest place
     → IsFound (value (position now) d) rest r → IsFound (value (position start) d) w r
 rest-found start now d w rest place r same wide x found = lifted-found (value (position start) d) w rest r wide x.up (found-here start now d rest r same found)
 
 -- a second early try that reaches the upper end of the rest
-pub rest-cut : (start now : Course) (d : ℕ) (w rest : Window) (one two : Option ℕ) (v : ℤ) → now ≡ start → w.alpha <ℤ w.beta → Rest (position start) d w rest one → SFits w32 v
+pub rest-cut : (start now : History) (d : ℕ) (w rest : Window) (one two : Option ℕ) (v : ℤ) → now ≡ start → w.alpha <ℤ w.beta → Rest (position start) d w rest one → SFits w32 v
     → le_z (to_z w32 (of_z w32 rest.beta)) (to_z w32 (of_z w32 v)) ≡ true → IsTriedEarly (position now) d rest v two → IsFound (value (position start) d) w v
 rest-cut start now d w rest one two v same wide x fits test tried =
     let p = position start in
@@ -117,7 +117,7 @@ max-fits : (a b r : ℤ) → r ≡ int_max (to_z w32 (of_z w32 a)) (to_z w32 (of
 max-fits a b r e = omega (arith, ints, clamps, e)
 
 -- what is left of a window after the first move, which did not reach the upper end
-pub first-rest : (start now : Course) (d : ℕ) (m : Move) (found r : ℤ) (w : Window) → now ≡ start → IsOpen w → SFits w32 found
+pub first-rest : (start now : History) (d : ℕ) (m : Move) (found r : ℤ) (w : Window) → now ≡ start → IsOpen w → SFits w32 found
     → r ≡ int_max (to_z w32 (of_z w32 w.alpha)) (to_z w32 (of_z w32 found)) → le_z (to_z w32 (of_z w32 w.beta)) (to_z w32 (of_z w32 found)) ≡ false
     → IsFound (reply_value (position now) d m) w found → FirstRest (reply_value (position start) d m) w (record { alpha = to_z w32 (of_z w32 r); beta = to_z w32 (of_z w32 w.beta) })
 first-rest start now d m found r w same wide fits e test tried =

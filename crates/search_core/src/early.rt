@@ -1,7 +1,7 @@
-//! Moves that are tried before their turn and paid for from the purse.
+//! Moves that are tried before their turn and paid for from the credit.
 
 ghost use Rattle.std.specs.Prelude.{◌≡◌, ◌-◌, ◌<◌, length};
-ghost use Rattle.hive_model.specs.Courses.{position};
+ghost use Rattle.hive_model.specs.Histories.{position};
 ghost use Rattle.search_core.specs.Moments.{moment_within, Spends, SpendsOnMoves};
 ghost use Rattle.search_core.specs.Moments.{Answers, AnswersNode};
 ghost use Rattle.search_core.specs.Nodes.{IsOpenNode};
@@ -27,7 +27,7 @@ struct Early {
 }
 
 /// Searches the moves of a level other than the one at the place `tried`, if there is one. That one
-/// is worth no more than alpha. The two others that look best are tried first, as far as the purse
+/// is worth no more than alpha. The two others that look best are tried first, as far as the credit
 /// pays for them.
 #[cycle(search)]
 pub(crate) fn search_early<G: Game, C: Clock>(
@@ -38,17 +38,17 @@ pub(crate) fn search_early<G: Game, C: Clock>(
     work: &mut Workspace,
     clock: &mut C,
 ) -> Option<Tried>
-    requires node { IsOpenNode node level (G.course game.old) work.old.stack }
-    requires tried { IsAtMost (position (G.course game.old)) (node.depth - 1) node.window.alpha
+    requires node { IsOpenNode node level (G.history game.old) work.old.stack }
+    requires tried { IsAtMost (position (G.history game.old)) (node.depth - 1) node.window.alpha
         tried }
-    ensures spends { let at = moment_within G.course G.played C.readings C.last C.previous in
+    ensures spends { let at = moment_within G.history G.played C.readings C.last C.previous in
         SpendsOnMoves tried node
         (at game.old work.old clock.old) (at game.new work.new clock.new) }
-    ensures answers { let at = moment_within G.course G.played C.readings C.last C.previous in
+    ensures answers { let at = moment_within G.history G.played C.readings C.last C.previous in
         AnswersNode node result
         (at game.old work.old clock.old) (at game.new work.new clock.new) }
 {
-    let likely = two_told(game, node.depth, &work.purse, &work.stack, level, tried);
+    let likely = two_told(game, node.depth, &work.credit, &work.stack, level, tried);
     let one = try_early(game, level, likely.first, node, work, clock)?;
     if one.value >= node.window.beta {
         let cut = cut_by(game, one, level, &work.stack, &mut work.table);
@@ -83,7 +83,7 @@ pub(crate) fn search_early<G: Game, C: Clock>(
     search_rest(game, level, places, rest, work, clock)
 }
 
-/// Tries the move at the place of a level, if there is one, before its turn, as far as the purse
+/// Tries the move at the place of a level, if there is one, before its turn, as far as the credit
 /// pays for it. There is no answer if the deadline came. There is none if the node itself is
 /// searched within an early try that could not be paid for.
 #[cycle(search)]
@@ -95,12 +95,12 @@ fn try_early<G: Game, C: Clock>(
     work: &mut Workspace,
     clock: &mut C,
 ) -> Option<Early>
-    requires { IsOpenNode node level (G.course game.old) work.old.stack }
-    ensures spends { let at = moment_within G.course G.played C.readings C.last C.previous in
+    requires { IsOpenNode node level (G.history game.old) work.old.stack }
+    ensures spends { let at = moment_within G.history G.played C.readings C.last C.previous in
         Spends 0 0
         (at game.old work.old clock.old) (at game.new work.new clock.new) }
-    ensures answers { let at = moment_within G.course G.played C.readings C.last C.previous in
-        Answers (λ e. IsTriedEarly (position (G.course game.old)) node.depth node.window e.value
+    ensures answers { let at = moment_within G.history G.played C.readings C.last C.previous in
+        Answers (λ e. IsTriedEarly (position (G.history game.old)) node.depth node.window e.value
         e.place) result
         (at game.old work.old clock.old) (at game.new work.new clock.new) }
 {
@@ -119,9 +119,9 @@ fn try_early<G: Game, C: Clock>(
         depth: node.depth - 1,
         window: node.window,
     };
-    let within = work.purse.begin_early();
+    let within = work.credit.begin_early();
     let found = reply_with(game, m, child, work, clock);
-    work.purse.end_early(within);
+    work.credit.end_early(within);
     if let Some(value) = found {
         return Some(Early {
             value,
@@ -131,7 +131,7 @@ fn try_early<G: Game, C: Clock>(
     if within {
         return None;
     }
-    if work.purse.is_spent() {
+    if work.credit.is_spent() {
         return Some(untried);
     }
     None

@@ -4,7 +4,7 @@ ghost use Rattle.std.specs.Prelude.{◌-◌, ◌≤ℤ◌};
 ghost use Rattle.hive_model.specs.Legal.{moves};
 ghost use Rattle.hive_model.specs.Lists.{IsOn};
 ghost use Rattle.hive_model.specs.Minimax.{IsInner, reply_value};
-ghost use Rattle.hive_model.specs.Courses.{position};
+ghost use Rattle.hive_model.specs.Histories.{position};
 ghost use Rattle.search_laws.specs.Found.{IsOpen};
 ghost use Rattle.search_laws.specs.Nodes.{HasRoom};
 ghost use Rattle.search_core.specs.Nodes.{IsOpenNode};
@@ -32,12 +32,12 @@ pub(crate) fn search_moves<G: Game, C: Clock>(
     clock: &mut C,
 ) -> Option<Tried>
     requires window { IsOpen node.window }
-    requires inner { IsInner (position (G.course game.old)) node.depth }
-    requires room { HasRoom node.depth (G.course game.old) work.old.stack }
-    ensures spends { let at = moment_within G.course G.played C.readings C.last C.previous in
+    requires inner { IsInner (position (G.history game.old)) node.depth }
+    requires room { HasRoom node.depth (G.history game.old) work.old.stack }
+    ensures spends { let at = moment_within G.history G.played C.readings C.last C.previous in
         SpendsOnNode node
         (at game.old work.old clock.old) (at game.new work.new clock.new) }
-    ensures answers { let at = moment_within G.course G.played C.readings C.last C.previous in
+    ensures answers { let at = moment_within G.history G.played C.readings C.last C.previous in
         AnswersNode node result
         (at game.old work.old clock.old) (at game.new work.new clock.new) }
 {
@@ -58,13 +58,13 @@ fn search_from<G: Game, C: Clock>(
     clock: &mut C,
 ) -> Option<Tried>
     requires window { IsOpen node.window }
-    requires inner { IsInner (position (G.course game.old)) node.depth }
-    requires room { HasRoom node.depth (G.course game.old) work.old.stack }
-    requires legal { IsOn (moves (position (G.course game.old))) m.now }
-    ensures spends { let at = moment_within G.course G.played C.readings C.last C.previous in
+    requires inner { IsInner (position (G.history game.old)) node.depth }
+    requires room { HasRoom node.depth (G.history game.old) work.old.stack }
+    requires legal { IsOn (moves (position (G.history game.old))) m.now }
+    ensures spends { let at = moment_within G.history G.played C.readings C.last C.previous in
         SpendsOnNode node
         (at game.old work.old clock.old) (at game.new work.new clock.new) }
-    ensures answers { let at = moment_within G.course G.played C.readings C.last C.previous in
+    ensures answers { let at = moment_within G.history G.played C.readings C.last C.previous in
         AnswersNode node result
         (at game.old work.old clock.old) (at game.new work.new clock.new) }
 {
@@ -100,15 +100,15 @@ fn search_others<G: Game, C: Clock>(
     clock: &mut C,
 ) -> Option<Tried>
     requires window { IsOpen node.window }
-    requires inner { IsInner (position (G.course game.old)) node.depth }
-    requires room { HasRoom node.depth (G.course game.old) work.old.stack }
-    requires legal { IsOn (moves (position (G.course game.old))) m.now }
-    requires worth { reply_value (position (G.course game.old)) (node.depth - 1) m.now
+    requires inner { IsInner (position (G.history game.old)) node.depth }
+    requires room { HasRoom node.depth (G.history game.old) work.old.stack }
+    requires legal { IsOn (moves (position (G.history game.old))) m.now }
+    requires worth { reply_value (position (G.history game.old)) (node.depth - 1) m.now
         ≤ℤ node.window.alpha }
-    ensures spends { let at = moment_within G.course G.played C.readings C.last C.previous in
+    ensures spends { let at = moment_within G.history G.played C.readings C.last C.previous in
         SpendsOnOthers m.now node
         (at game.old work.old clock.old) (at game.new work.new clock.new) }
-    ensures answers { let at = moment_within G.course G.played C.readings C.last C.previous in
+    ensures answers { let at = moment_within G.history G.played C.readings C.last C.previous in
         AnswersNode node result
         (at game.old work.old clock.old) (at game.new work.new clock.new) }
 {
@@ -130,12 +130,12 @@ fn search_listed<G: Game, C: Clock>(
     clock: &mut C,
 ) -> Option<Tried>
     requires window { IsOpen node.window }
-    requires inner { IsInner (position (G.course game.old)) node.depth }
-    requires room { HasRoom node.depth (G.course game.old) work.old.stack }
-    ensures spends { let at = moment_within G.course G.played C.readings C.last C.previous in
+    requires inner { IsInner (position (G.history game.old)) node.depth }
+    requires room { HasRoom node.depth (G.history game.old) work.old.stack }
+    ensures spends { let at = moment_within G.history G.played C.readings C.last C.previous in
         SpendsOnNode node
         (at game.old work.old clock.old) (at game.new work.new clock.new) }
-    ensures answers { let at = moment_within G.course G.played C.readings C.last C.previous in
+    ensures answers { let at = moment_within G.history G.played C.readings C.last C.previous in
         AnswersNode node result
         (at game.old work.old clock.old) (at game.new work.new clock.new) }
 {
@@ -158,11 +158,11 @@ fn search_hinted<G: Game, C: Clock>(
     work: &mut Workspace,
     clock: &mut C,
 ) -> Option<Tried>
-    requires { IsOpenNode node level (G.course game.old) work.old.stack }
-    ensures spends { let at = moment_within G.course G.played C.readings C.last C.previous in
+    requires { IsOpenNode node level (G.history game.old) work.old.stack }
+    ensures spends { let at = moment_within G.history G.played C.readings C.last C.previous in
         SpendsOnNode node
         (at game.old work.old clock.old) (at game.new work.new clock.new) }
-    ensures answers { let at = moment_within G.course G.played C.readings C.last C.previous in
+    ensures answers { let at = moment_within G.history G.played C.readings C.last C.previous in
         AnswersNode node result
         (at game.old work.old clock.old) (at game.new work.new clock.new) }
 {

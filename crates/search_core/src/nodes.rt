@@ -2,7 +2,7 @@
 
 ghost use Rattle.hive_model.specs.Keys.{key};
 ghost use Rattle.hive_model.specs.Minimax.{value};
-ghost use Rattle.hive_model.specs.Courses.{position};
+ghost use Rattle.hive_model.specs.Histories.{position};
 ghost use Rattle.search_laws.specs.Found.{IsFound};
 ghost use Rattle.search_core.specs.Nodes.{HasOpenRoom};
 ghost use Rattle.search_core.specs.Moments.{moment_within, SpendsOnNode, Answers};
@@ -17,8 +17,8 @@ use hive_model::Game;
 use io_edge::Clock;
 use search_laws::leaf_value;
 
-/// Searches as `search` does, with what the purse holds so far. There is also no answer if an early
-/// try could not be paid for.
+/// Searches as `search` does, with the credit as it stands. There is also no answer if an early try
+/// could not be paid for.
 #[cycle(search)]
 pub(crate) fn search_with<G: Game, C: Clock>(
     game: &mut G,
@@ -26,17 +26,17 @@ pub(crate) fn search_with<G: Game, C: Clock>(
     work: &mut Workspace,
     clock: &mut C,
 ) -> Option<i32>
-    requires { HasOpenRoom node (G.course game.old) work.old.stack }
-    ensures spends { let at = moment_within G.course G.played C.readings C.last C.previous in
+    requires { HasOpenRoom node (G.history game.old) work.old.stack }
+    ensures spends { let at = moment_within G.history G.played C.readings C.last C.previous in
         SpendsOnNode node
         (at game.old work.old clock.old) (at game.new work.new clock.new) }
-    ensures answers { let at = moment_within G.course G.played C.readings C.last C.previous in
-        Answers (IsFound (value (position (G.course game.old)) node.depth) node.window) result
+    ensures answers { let at = moment_within G.history G.played C.readings C.last C.previous in
+        Answers (IsFound (value (position (G.history game.old)) node.depth) node.window) result
         (at game.old work.old clock.old) (at game.new work.new clock.new) }
     ensures kept { AnswersAsKept node.depth (kept work.old.table (key
-        (position (G.course game.old)))) result (G.played game.old) (G.played game.new) }
+        (position (G.history game.old)))) result (G.played game.old) (G.played game.new) }
 {
-    work.table.holds();
+    work.table.lemma_holds();
     if let Some(worth) = leaf_value(game, node.depth) {
         return Some(worth);
     }

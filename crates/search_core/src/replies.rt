@@ -4,7 +4,7 @@ ghost use Rattle.search_core.specs.Moments.{moment, moment_within, SpendsOnReply
 ghost use Rattle.search_core.specs.Nodes.{MayReply};
 
 use crate::nodes::search_with;
-use crate::purse::Purse;
+use crate::play_credit::PlayCredit;
 use crate::told::told_reply;
 use crate::workspace::{Node, Workspace};
 use hive_model::{Game, Move};
@@ -21,20 +21,20 @@ pub fn reply<G: Game, C: Clock>(
     work: &mut Workspace,
     clock: &mut C,
 ) -> Option<i32>
-    requires { MayReply m node (G.course game.old) work.old.stack }
-    ensures spends { let at = moment G.course G.played C.readings C.last C.previous in
+    requires { MayReply m node (G.history game.old) work.old.stack }
+    ensures spends { let at = moment G.history G.played C.readings C.last C.previous in
         SpendsOnReply m node
         (at game.old work.old clock.old) (at game.new work.new clock.new) }
-    ensures answers { let at = moment G.course G.played C.readings C.last C.previous in
+    ensures answers { let at = moment G.history G.played C.readings C.last C.previous in
         AnswersReply m node result
         (at game.old work.old clock.old) (at game.new work.new clock.new) }
 {
-    work.purse = Purse::empty();
+    work.credit = PlayCredit::empty();
     reply_with(game, m, node, work, clock)
 }
 
-/// Searches as `reply` does, with what the purse holds so far. A move valued without a play saves a
-/// play. There is also no answer if an early try could not be paid for.
+/// Searches as `reply` does, with the credit as it stands. A move valued without a play saves a play.
+/// There is also no answer if an early try could not be paid for.
 #[cycle(search)]
 pub(crate) fn reply_with<G: Game, C: Clock>(
     game: &mut G,
@@ -43,17 +43,17 @@ pub(crate) fn reply_with<G: Game, C: Clock>(
     work: &mut Workspace,
     clock: &mut C,
 ) -> Option<i32>
-    requires { MayReply m node (G.course game.old) work.old.stack }
-    ensures spends { let at = moment_within G.course G.played C.readings C.last C.previous in
+    requires { MayReply m node (G.history game.old) work.old.stack }
+    ensures spends { let at = moment_within G.history G.played C.readings C.last C.previous in
         SpendsOnReply m node
         (at game.old work.old clock.old) (at game.new work.new clock.new) }
-    ensures answers { let at = moment_within G.course G.played C.readings C.last C.previous in
+    ensures answers { let at = moment_within G.history G.played C.readings C.last C.previous in
         AnswersReply m node result
         (at game.old work.old clock.old) (at game.new work.new clock.new) }
 {
     let told = told_reply(game, m.again(), node);
     if told.is_some() {
-        work.purse.save();
+        work.credit.save();
         return told;
     }
     play_reply(game, m, node, work, clock)
@@ -68,15 +68,15 @@ fn play_reply<G: Game, C: Clock>(
     work: &mut Workspace,
     clock: &mut C,
 ) -> Option<i32>
-    requires { MayReply m node (G.course game.old) work.old.stack }
-    ensures spends { let at = moment_within G.course G.played C.readings C.last C.previous in
+    requires { MayReply m node (G.history game.old) work.old.stack }
+    ensures spends { let at = moment_within G.history G.played C.readings C.last C.previous in
         SpendsOnReply m node
         (at game.old work.old clock.old) (at game.new work.new clock.new) }
-    ensures answers { let at = moment_within G.course G.played C.readings C.last C.previous in
+    ensures answers { let at = moment_within G.history G.played C.readings C.last C.previous in
         AnswersReply m node result
         (at game.old work.old clock.old) (at game.new work.new clock.new) }
 {
-    if !work.purse.pay() {
+    if !work.credit.pay() {
         return None;
     }
     game.play(m);

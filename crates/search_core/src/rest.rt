@@ -3,7 +3,7 @@
 
 ghost use Rattle.std.specs.Prelude.{◌≡◌, ◌-◌, ◌||◌, nat_eq, Some};
 ghost use Rattle.std.specs.Option.{option_eq};
-ghost use Rattle.hive_model.specs.Courses.{position};
+ghost use Rattle.hive_model.specs.Histories.{position};
 ghost use Rattle.search_core.specs.Moments.{moment_within, SpendsOnMoves, AnswersNode};
 ghost use Rattle.search_core.specs.Nodes.{IsOpenNode};
 ghost use Rattle.search_core.specs.Times.{WereTried};
@@ -48,13 +48,13 @@ pub(crate) fn search_rest<G: Game, C: Clock>(
     work: &mut Workspace,
     clock: &mut C,
 ) -> Option<Tried>
-    requires node { IsOpenNode node level (G.course game.old) work.old.stack }
-    requires tried { WereTried (position (G.course game.old)) (node.depth - 1) node.window.alpha
+    requires node { IsOpenNode node level (G.history game.old) work.old.stack }
+    requires tried { WereTried (position (G.history game.old)) (node.depth - 1) node.window.alpha
         places.hint places.first places.second }
-    ensures spends { let at = moment_within G.course G.played C.readings C.last C.previous in
+    ensures spends { let at = moment_within G.history G.played C.readings C.last C.previous in
         SpendsOnMoves places.hint node
         (at game.old work.old clock.old) (at game.new work.new clock.new) }
-    ensures answers { let at = moment_within G.course G.played C.readings C.last C.previous in
+    ensures answers { let at = moment_within G.history G.played C.readings C.last C.previous in
         AnswersNode node result
         (at game.old work.old clock.old) (at game.new work.new clock.new) }
 {
@@ -67,7 +67,7 @@ pub(crate) fn search_rest<G: Game, C: Clock>(
             continue;
         }
         if i < candidate {
-            work.purse.save();
+            work.credit.save();
             continue;
         }
         let m = work.stack.get(level, i);

@@ -4,7 +4,7 @@ ghost use Rattle.std.specs.Prelude.{◌≡◌, ◌-◌, ◌<◌, ◌≤◌, leng
 ghost use Rattle.hive_model.specs.Legal.{moves};
 ghost use Rattle.hive_model.specs.Lists.{IsOn};
 ghost use Rattle.hive_model.specs.Minimax.{reply_value};
-ghost use Rattle.hive_model.specs.Courses.{position};
+ghost use Rattle.hive_model.specs.Histories.{position};
 ghost use Rattle.hive_model.specs.Stack.{level_of};
 ghost use Rattle.search_laws.specs.Found.{IsFound, IsOpen};
 ghost use Rattle.search_core.specs.Times.{AreAtMost};
@@ -17,10 +17,10 @@ use search_laws::Window;
 /// bound of it. The bound is at or below the lower end of the window.
 fn told_leaf<G: Game>(game: &mut G, m: Move, window: Window) -> Option<i32>
     requires window { IsOpen window }
-    requires legal { IsOn (moves (position (G.course game.old))) m }
-    ensures found { IfSome result (IsFound (reply_value (position (G.course game.old)) 0 m)
+    requires legal { IsOn (moves (position (G.history game.old))) m }
+    ensures found { IfSome result (IsFound (reply_value (position (G.history game.old)) 0 m)
         window) }
-    ensures same { G.course game.new ≡ G.course game.old }
+    ensures same { G.history game.new ≡ G.history game.old }
     ensures count { G.played game.new ≡ G.played game.old }
 {
     if let Some(worth) = game.value_after(m.again()) {
@@ -37,10 +37,10 @@ fn told_leaf<G: Game>(game: &mut G, m: Move, window: Window) -> Option<i32>
 /// lower end of the window.
 fn told_bound<G: Game>(game: &mut G, m: Move, window: Window) -> Option<i32>
     requires window { IsOpen window }
-    requires legal { IsOn (moves (position (G.course game.old))) m }
-    ensures found { IfSome result (IsFound (reply_value (position (G.course game.old)) 1 m)
+    requires legal { IsOn (moves (position (G.history game.old))) m }
+    ensures found { IfSome result (IsFound (reply_value (position (G.history game.old)) 1 m)
         window) }
-    ensures same { G.course game.new ≡ G.course game.old }
+    ensures same { G.history game.new ≡ G.history game.old }
     ensures count { G.played game.new ≡ G.played game.old }
 {
     let least = game.least_after(m.again())?;
@@ -60,10 +60,10 @@ fn told_bound<G: Game>(game: &mut G, m: Move, window: Window) -> Option<i32>
 /// ply left it is such a bound.
 pub(crate) fn told_reply<G: Game>(game: &mut G, m: Move, node: Node) -> Option<i32>
     requires window { IsOpen node.window }
-    requires legal { IsOn (moves (position (G.course game.old))) m }
-    ensures found { IfSome result (IsFound (reply_value (position (G.course game.old)) node.depth
+    requires legal { IsOn (moves (position (G.history game.old))) m }
+    ensures found { IfSome result (IsFound (reply_value (position (G.history game.old)) node.depth
         m) node.window) }
-    ensures same { G.course game.new ≡ G.course game.old }
+    ensures same { G.history game.new ≡ G.history game.old }
     ensures count { G.played game.new ≡ G.played game.old }
 {
     match node.depth {
@@ -85,10 +85,10 @@ pub(crate) fn next_candidate<G: Game>(
     alpha: i32,
 ) -> u32
     requires stands { level < length stack.now.lists }
-    requires listed { level_of stack.now level ≡ moves (position (G.course game.old)) }
-    requires from { from ≤ length (moves (position (G.course game.old))) }
-    ensures passed { AreAtMost (position (G.course game.old)) (depth - 1) alpha from result }
-    ensures same { G.course game.new ≡ G.course game.old }
+    requires listed { level_of stack.now level ≡ moves (position (G.history game.old)) }
+    requires from { from ≤ length (moves (position (G.history game.old))) }
+    ensures passed { AreAtMost (position (G.history game.old)) (depth - 1) alpha from result }
+    ensures same { G.history game.new ≡ G.history game.old }
     ensures count { G.played game.new ≡ G.played game.old }
 {
     if depth > 1 {

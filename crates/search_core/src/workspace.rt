@@ -2,7 +2,7 @@
 
 ghost use Rattle.std.specs.Prelude.{◌≡◌};
 
-use crate::purse::Purse;
+use crate::play_credit::PlayCredit;
 use crate::ticker::Ticker;
 use hive_model::MoveStack;
 use search_laws::Window;
@@ -15,8 +15,8 @@ pub struct Workspace {
     pub stack: MoveStack,
     pub table: ValueTable,
     pub ticker: Ticker,
-    /// The purse that pays for early tries. It is emptied as a search begins.
-    pub(crate) purse: Purse,
+    /// The credit that pays for early tries. It is emptied as a search begins.
+    pub(crate) credit: PlayCredit,
 }
 
 impl Workspace {
@@ -30,7 +30,7 @@ impl Workspace {
             stack,
             table,
             ticker,
-            purse: Purse::empty(),
+            credit: PlayCredit::empty(),
         }
     }
 }

@@ -13,7 +13,7 @@ use Rattle.hive_model.specs.Games.{after}
 use Rattle.hive_model.specs.Minimax.{IsInner, value, reply_value, greatest_from}
 use Rattle.hive_model.specs.Costs.{tries_cost, most_by, cost}
 use Rattle.hive_model.specs.Stack.{Levels, level_of, with_level}
-use Rattle.hive_model.specs.Courses.{Course, position}
+use Rattle.hive_model.specs.Histories.{History, position}
 use Rattle.search_laws.proofs.LoopLaws.{greatest-step, level_of-with_level}
 use Rattle.search_laws.proofs.Greatest.{greatest-each}
 use Rattle.search_laws.proofs.MinimaxLaws.{value-greatest}
@@ -96,31 +96,31 @@ reply-low p d i m inner here =
     omega (arith, ints, each, value-greatest p d inner)
 
 -- what the search of the rest requires, if the first move raised alpha
-pub hint-worth : (start now : Course) (d i : ℕ) (n : Move) (alpha : ℤ) → now ≡ start → slice_get (moves (position start)) i ≡ Some n → reply_value (position start) (d - 1) n ≤ℤ alpha →
+pub hint-worth : (start now : History) (d i : ℕ) (n : Move) (alpha : ℤ) → now ≡ start → slice_get (moves (position start)) i ≡ Some n → reply_value (position start) (d - 1) n ≤ℤ alpha →
     (m : Move) → slice_get (moves (position now)) i ≡ Some m → reply_value (position now) (d - 1) m ≤ℤ alpha
 hint-worth start now d i n alpha same here less = subst
-    (λ (h : Course). (m : Move) → slice_get (moves (position h)) i ≡ Some m → reply_value (position h) (d - 1) m ≤ℤ alpha)
+    (λ (h : History). (m : Move) → slice_get (moves (position h)) i ≡ Some m → reply_value (position h) (d - 1) m ≤ℤ alpha)
     (sym same)
     (λ m e. let k : n ≡ m = same_Some n m (sym here ∙ e) in omega (arith, ints, less, ap (reply_value (position start) (d - 1)) k))
 
-pub inner-here : (start now : Course) (d : ℕ) → now ≡ start → IsInner (position start) d → IsInner (position now) d
-inner-here start now d same inner = subst (λ (h : Course). IsInner (position h) d) (sym same) inner
+pub inner-here : (start now : History) (d : ℕ) → now ≡ start → IsInner (position start) d → IsInner (position now) d
+inner-here start now d same inner = subst (λ (h : History). IsInner (position h) d) (sym same) inner
 
-pub tries-here : (start now : Course) (d : ℕ) (w : Window) (n1 n2 : ℕ) → now ≡ start →
+pub tries-here : (start now : History) (d : ℕ) (w : Window) (n1 n2 : ℕ) → now ≡ start →
     n2 ≤ n1 + tries_cost (tried_cost (position now) (d - 1) w.beta) (reply_value (position now) (d - 1)) w.alpha w.beta (moves (position now)) →
     n2 ≤ n1 + tries_cost (tried_cost (position start) (d - 1) w.beta) (reply_value (position start) (d - 1)) w.alpha w.beta (moves (position start))
 tries-here start now d w n1 n2 same h = subst
-    (λ (g : Course). n2 ≤ n1 + tries_cost (tried_cost (position g) (d - 1) w.beta) (reply_value (position g) (d - 1)) w.alpha w.beta (moves (position g))) same h
+    (λ (g : History). n2 ≤ n1 + tries_cost (tried_cost (position g) (d - 1) w.beta) (reply_value (position g) (d - 1)) w.alpha w.beta (moves (position g))) same h
 
-pub found-here : (start now : Course) (d : ℕ) (w : Window) (r : ℤ) → now ≡ start → IsFound (value (position now) d) w r → IsFound (value (position start) d) w r
-found-here start now d w r same f = subst (λ (g : Course). IsFound (value (position g) d) w r) same f
+pub found-here : (start now : History) (d : ℕ) (w : Window) (r : ℤ) → now ≡ start → IsFound (value (position now) d) w r → IsFound (value (position start) d) w r
+found-here start now d w r same f = subst (λ (g : History). IsFound (value (position g) d) w r) same f
 
-pub reply-here : (start now : Course) (d : ℕ) (m : Move) (w : Window) (r : ℤ) → now ≡ start → IsFound (reply_value (position now) d m) w r → IsFound (reply_value (position start) d m) w r
-reply-here start now d m w r same f = subst (λ (g : Course). IsFound (reply_value (position g) d m) w r) same f
+pub reply-here : (start now : History) (d : ℕ) (m : Move) (w : Window) (r : ℤ) → now ≡ start → IsFound (reply_value (position now) d m) w r → IsFound (reply_value (position start) d m) w r
+reply-here start now d m w r same f = subst (λ (g : History). IsFound (reply_value (position g) d m) w r) same f
 
-pub moves-listed : (start now : Course) (s old s1 : Levels) (level : ℕ) → now ≡ start → s ≡ s1 → s1 ≡ with_level old (moves (position start)) → level ≡ length old.lists →
+pub moves-listed : (start now : History) (s old s1 : Levels) (level : ℕ) → now ≡ start → s ≡ s1 → s1 ≡ with_level old (moves (position start)) → level ≡ length old.lists →
     level_of s level ≡ moves (position now)
-moves-listed start now s old s1 level same es el en = level_of-with_level s old (moves (position start)) level (es ∙ el) en ∙ ap (λ (g : Course). moves (position g)) (sym same)
+moves-listed start now s old s1 level same es el en = level_of-with_level s old (moves (position start)) level (es ∙ el) en ∙ ap (λ (g : History). moves (position g)) (sym same)
 
 -- a single move that reaches beta
 pub first-cut : (p : Position) (d i : ℕ) (m : Move) (w : Window) (n0 n1 n2 : ℕ) → IsInner p d → slice_get (moves p) i ≡ Some m → n1 ≡ n0 →

@@ -1,4 +1,4 @@
-pub mod CourseLaws
+pub mod HistoryLaws
 pub mod Greatest
 pub mod LoopLaws
 pub mod MinimaxLaws

@@ -7,10 +7,10 @@ use Rattle.std.specs.Int.{int_max}
 use Rattle.hive_model.specs.declared.places.Move.{Move}
 use Rattle.hive_model.specs.Stack.{Levels, level_of, with_level}
 use Rattle.hive_model.specs.Minimax.{greatest_from, greatest}
-use Rattle.hive_model.specs.Courses.{Course, position, with_move}
+use Rattle.hive_model.specs.Histories.{History, position, with_move}
 use Rattle.hive_model.specs.Games.{after}
 pub use Rattle.hive_model.proofs.GetLemmas.{on-at, drop-at}
-use Rattle.search_laws.proofs.CourseLaws.{position-with_move}
+use Rattle.search_laws.proofs.HistoryLaws.{position-with_move}
 
 get_or-seam : {A : Type 0} (xs : List A) (x d : A) → get_or (xs ++ x ∷ []) (length xs) d ≡ x
 get_or-seam [] x d = refl
@@ -52,7 +52,7 @@ pub listed-at : (s old : Levels) (ms : List Move) (level i : ℕ) (m : Move) →
 listed-at s old ms level i m es el e = rw (level_of-with_level s old ms level es el) at e
 
 -- what was searched after a move
-pub position-behind : (g0 g1 start : Course) (m : Move) → g1 ≡ with_move g0 m → g0 ≡ start → position g1 ≡ after (position start) m
+pub position-behind : (g0 g1 start : History) (m : Move) → g1 ≡ with_move g0 m → g0 ≡ start → position g1 ≡ after (position start) m
 position-behind g0 g1 start m played same = ap position (played ∙ ap (λ g. with_move g m) same) ∙ position-with_move start m
 
 -- a list of moves that was read whole

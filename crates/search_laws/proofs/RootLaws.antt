@@ -9,7 +9,7 @@ use Rattle.hive_model.specs.Legal.{moves}
 use Rattle.hive_model.specs.Games.{after}
 use Rattle.hive_model.specs.Minimax.{IsInner, value, reply_value, greatest_from, best}
 use Rattle.hive_model.specs.Costs.{root_cost, every_from, cost}
-use Rattle.hive_model.specs.Courses.{Course, position}
+use Rattle.hive_model.specs.Histories.{History, position}
 use Rattle.search_laws.proofs.LoopLaws.{drop-at, greatest-step, greatest-end}
 use Rattle.search_laws.proofs.Greatest.{greatest_from-start}
 use Rattle.search_laws.specs.Laws.{IsSmall}
@@ -121,7 +121,7 @@ every-all i (m ∷ ms) =
 
 -- ---- a turn, from what the calls ensure
 
-pub record Tried (start : Course) (d i : ℕ) (g : ℤ) (m n : Move) (w : Window) (r : ℤ) (n0 n1 n2 : ℕ) : Type 0 where
+pub record Tried (start : History) (d i : ℕ) (g : ℤ) (m n : Move) (w : Window) (r : ℤ) (n0 n1 n2 : ℕ) : Type 0 where
   pub root : Root (position start) d i g m
   pub here : slice_get (moves (position start)) i ≡ Some n
   pub deep : d ≤ 64
@@ -131,11 +131,11 @@ pub record Tried (start : Course) (d i : ℕ) (g : ℤ) (m n : Move) (w : Window
   pub plays : RootPlays (position start) d i g n0 n1
   pub more : n2 ≤ n1 + (1 + cost (after (position start) n) (d - 1) (neg_ℤ w.beta) (neg_ℤ w.alpha))
 
-pub record Kept (start : Course) (d i : ℕ) (g : ℤ) (m : Move) (n0 n2 : ℕ) : Type 0 where
+pub record Kept (start : History) (d i : ℕ) (g : ℤ) (m : Move) (n0 n2 : ℕ) : Type 0 where
   pub root : Root (position start) d i g m
   pub plays : RootPlays (position start) d i g n0 n2
 
-pub tried : (start now : Course) (d i : ℕ) (g : ℤ) (m n : Move) (w : Window) (r : ℤ) (n0 n1 n2 : ℕ) → now ≡ start → Root (position start) d i g m →
+pub tried : (start now : History) (d i : ℕ) (g : ℤ) (m n : Move) (w : Window) (r : ℤ) (n0 n1 n2 : ℕ) → now ≡ start → Root (position start) d i g m →
     slice_get (moves (position start)) i ≡ Some n → d ≤ 64 → w.alpha ≡ g -ℤ pos 1 → w.beta ≡ pos 1000100 →
     IsFound (reply_value (position now) (d - 1) n) w r → RootPlays (position start) d i g n0 n1 →
     n2 ≤ n1 + (1 + cost (after (position now) n) (d - 1) (neg_ℤ w.beta) (neg_ℤ w.alpha)) → Tried start d i g m n w r n0 n1 n2
@@ -145,12 +145,12 @@ tried start now d i g m n w r n0 n1 n2 same root here deep ea eb found plays mor
   deep = deep;
   alpha = ea;
   beta = eb;
-  found = subst (λ (h : Course). IsFound (reply_value (position h) (d - 1) n) w r) same found;
+  found = subst (λ (h : History). IsFound (reply_value (position h) (d - 1) n) w r) same found;
   plays = plays;
   more = plays-here start now (d - 1) n (neg_ℤ w.beta) (neg_ℤ w.alpha) n1 n2 same more;
 }
 
-pub tried-more : (start : Course) (d i : ℕ) (g : ℤ) (m n : Move) (w : Window) (r : ℤ) (n0 n1 n2 : ℕ) → Tried start d i g m n w r n0 n1 n2 → g <ℤ r →
+pub tried-more : (start : History) (d i : ℕ) (g : ℤ) (m n : Move) (w : Window) (r : ℤ) (n0 n1 n2 : ℕ) → Tried start d i g m n w r n0 n1 n2 → g <ℤ r →
     Kept start d (i + 1) r n n0 n2
 tried-more start d i g m n w r n0 n1 n2 t above =
     let p = position start in
@@ -162,7 +162,7 @@ tried-more start d i g m n w r n0 n1 n2 t above =
           (omega (arith, ints, clamps, e));
     }
 
-pub tried-less : (start : Course) (d i : ℕ) (g : ℤ) (m n : Move) (w : Window) (r : ℤ) (n0 n1 n2 : ℕ) → Tried start d i g m n w r n0 n1 n2 → r ≤ℤ g →
+pub tried-less : (start : History) (d i : ℕ) (g : ℤ) (m n : Move) (w : Window) (r : ℤ) (n0 n1 n2 : ℕ) → Tried start d i g m n w r n0 n1 n2 → r ≤ℤ g →
     Kept start d (i + 1) g m n0 n2
 tried-less start d i g m n w r n0 n1 n2 t under =
     let p = position start in

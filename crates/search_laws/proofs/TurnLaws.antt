@@ -11,8 +11,8 @@ use Rattle.hive_model.specs.Legal.{moves}
 use Rattle.hive_model.specs.Games.{after}
 use Rattle.hive_model.specs.Minimax.{IsInner, value, reply_value, greatest_from, greatest}
 use Rattle.hive_model.specs.Costs.{tries_cost, cost}
-use Rattle.hive_model.specs.Courses.{Course, position, with_move}
-use Rattle.search_laws.proofs.CourseLaws.{position-with_move}
+use Rattle.hive_model.specs.Histories.{History, position, with_move}
+use Rattle.search_laws.proofs.HistoryLaws.{position-with_move}
 use Rattle.search_laws.proofs.LoopLaws.{greatest-step, greatest-end, listed-at, on-at, count-of-level}
 use Rattle.search_laws.proofs.Greatest.{greatest-each, greatest_from-greatest}
 use Rattle.search_laws.proofs.MinimaxLaws.{value-greatest, moves-not_over}
@@ -24,14 +24,14 @@ use Rattle.search_laws.proofs.FoundLaws.{IsFound-neg, found-below, found-raises,
 
 -- ---- one move played, searched and undone
 
-pub reply-found : (start played : Course) (m : Move) (d : ℕ) (w behind : Window) (r s : ℤ) → played ≡ with_move start m →
+pub reply-found : (start played : History) (m : Move) (d : ℕ) (w behind : Window) (r s : ℤ) → played ≡ with_move start m →
     behind.alpha ≡ neg_ℤ w.beta → behind.beta ≡ neg_ℤ w.alpha → s ≡ neg_ℤ r →
     IsFound (value (position played) d) behind r → IsFound (reply_value (position start) d m) w s
 reply-found start played m d w behind r s moved ea eb es f =
     let e : position played ≡ after (position start) m = ap position moved ∙ position-with_move start m in
     IsFound-neg (value (after (position start) m) d) w behind r s ea eb es (subst (λ (p : Position). IsFound (value p d) behind r) e f)
 
-pub reply-plays : (start played : Course) (m : Move) (d : ℕ) (w behind : Window) (n0 n1 n2 n3 : ℕ) → played ≡ with_move start m →
+pub reply-plays : (start played : History) (m : Move) (d : ℕ) (w behind : Window) (n0 n1 n2 n3 : ℕ) → played ≡ with_move start m →
     behind.alpha ≡ neg_ℤ w.beta → behind.beta ≡ neg_ℤ w.alpha → n1 ≡ min (n0 + 1) (2 ^ 64 - 1) →
     n2 ≤ n1 + cost (position played) d behind.alpha behind.beta → n3 ≡ n2 →
     n3 ≤ n0 + (1 + cost (after (position start) m) d (neg_ℤ w.beta) (neg_ℤ w.alpha))
@@ -98,17 +98,17 @@ end-found p d w i alpha inner past high so =
 
 -- ---- from what the calls ensure
 
-pub move-here : (start entered : Course) (s old s1 : Levels) (level i : ℕ) (m : Move) → entered ≡ start → s1 ≡ with_level old (moves (position entered)) →
+pub move-here : (start entered : History) (s old s1 : Levels) (level i : ℕ) (m : Move) → entered ≡ start → s1 ≡ with_level old (moves (position entered)) →
     s ≡ s1 → level ≡ length old.lists → slice_get (level_of s level) i ≡ Some m → slice_get (moves (position start)) i ≡ Some m
 move-here start entered s old s1 level i m ee el es en e =
-    listed-at s old (moves (position start)) level i m (es ∙ el ∙ ap (λ (h : Course). with_level old (moves (position h))) ee) en e
+    listed-at s old (moves (position start)) level i m (es ∙ el ∙ ap (λ (h : History). with_level old (moves (position h))) ee) en e
 
-pub move-legal : (start entered now : Course) (s old s1 : Levels) (level i : ℕ) (m : Move) → entered ≡ start → s1 ≡ with_level old (moves (position entered)) →
+pub move-legal : (start entered now : History) (s old s1 : Levels) (level i : ℕ) (m : Move) → entered ≡ start → s1 ≡ with_level old (moves (position entered)) →
     s ≡ s1 → level ≡ length old.lists → slice_get (level_of s level) i ≡ Some m → now ≡ start → IsOn (moves (position now)) m
 move-legal start entered now s old s1 level i m ee el es en e same =
     on-at (moves (position now)) i m (move-here now entered s old s1 level i m (ee ∙ sym same) el es en e)
 
-pub turn-made : (start now : Course) (d i : ℕ) (m : Move) (w inner : Window) (r : ℤ) → IsInner (position start) d → slice_get (moves (position start)) i ≡ Some m →
+pub turn-made : (start now : History) (d i : ℕ) (m : Move) (w inner : Window) (r : ℤ) → IsInner (position start) d → slice_get (moves (position start)) i ≡ Some m →
     now ≡ start → inner.beta ≡ w.beta → w.alpha ≤ℤ inner.alpha → inner.alpha <ℤ w.beta →
     IsFound (reply_value (position now) (d - 1) m) inner r → LoopTurn (position start) d w inner i m r
 turn-made start now d i m w inner r open_ here same beta low high found = record {
@@ -117,14 +117,14 @@ turn-made start now d i m w inner r open_ here same beta low high found = record
   beta = beta;
   low = low;
   high = high;
-  found = subst (λ (h : Course). IsFound (reply_value (position h) (d - 1) m) inner r) same found;
+  found = subst (λ (h : History). IsFound (reply_value (position h) (d - 1) m) inner r) same found;
 }
 
-pub plays-here : (start now : Course) (d : ℕ) (m : Move) (a b : ℤ) (n1 n2 : ℕ) → now ≡ start → n2 ≤ n1 + (1 + cost (after (position now) m) d a b) →
+pub plays-here : (start now : History) (d : ℕ) (m : Move) (a b : ℤ) (n1 n2 : ℕ) → now ≡ start → n2 ≤ n1 + (1 + cost (after (position now) m) d a b) →
     n2 ≤ n1 + (1 + cost (after (position start) m) d a b)
-plays-here start now d m a b n1 n2 same h = subst (λ (g : Course). n2 ≤ n1 + (1 + cost (after (position g) m) d a b)) same h
+plays-here start now d m a b n1 n2 same h = subst (λ (g : History). n2 ≤ n1 + (1 + cost (after (position g) m) d a b)) same h
 
-pub count-here : (start entered : Course) (old s1 : Levels) (level n : ℕ) → entered ≡ start → s1 ≡ with_level old (moves (position entered)) →
+pub count-here : (start entered : History) (old s1 : Levels) (level n : ℕ) → entered ≡ start → s1 ≡ with_level old (moves (position entered)) →
     level ≡ length old.lists → n ≡ length (level_of s1 level) → n ≡ length (moves (position start))
 count-here start entered old s1 level n ee el en e =
-    count-of-level s1 old (moves (position start)) level n (el ∙ ap (λ (h : Course). with_level old (moves (position h))) ee) en e
+    count-of-level s1 old (moves (position start)) level n (el ∙ ap (λ (h : History). with_level old (moves (position h))) ee) en e

@@ -11,7 +11,7 @@ use Rattle.io_edge.specs.Outside.{Told, behind as written_behind}
 use Rattle.hive_model.specs.declared.places.Move.{Move}
 use Rattle.hive_model.specs.Lists.{IsOn}
 use Rattle.hive_model.specs.Legal.{moves}
-use Rattle.hive_model.specs.Courses.{Course, position}
+use Rattle.hive_model.specs.Histories.{History, position}
 use Rattle.hive_model.specs.Minimax.{best, value}
 use Rattle.hive_model.specs.Stack.{Levels, level_of, with_level}
 use Rattle.search_laws.proofs.LoopLaws.{on-at, level_of-with_level}
@@ -60,18 +60,18 @@ pub before-written : (p : Position) (e k : ℕ) (v x : ℤ) (r : Bool) (a b : To
 before-written p e k v x r a b is h =
     wrote-as r _ _ a b (ap (λ z. lines_below p e (AtLeast z) (range_of (moves p) 0 k)) is ∙ ap (lines_below p e (AtLeast (pos 1 -ℤ v))) (range-before (moves p) k)) h
 
-pub most-written : (start now : Course) (e : ℕ) (m : Move) (v x : ℤ) (r : Bool) (a b : Told) → now ≡ start → x ≡ neg_ℤ v → Wrote r (here (position now) e m (AtMost x)) a b → Wrote r (here (position start) e m (AtMost (neg_ℤ v))) a b
+pub most-written : (start now : History) (e : ℕ) (m : Move) (v x : ℤ) (r : Bool) (a b : Told) → now ≡ start → x ≡ neg_ℤ v → Wrote r (here (position now) e m (AtMost x)) a b → Wrote r (here (position start) e m (AtMost (neg_ℤ v))) a b
 most-written start now e m v x r a b same is h =
-    wrote-as r _ _ a b (ap (λ (g : Course). here (position g) e m (AtMost x)) same ∙ ap (λ z. here (position start) e m (AtMost z)) is) h
+    wrote-as r _ _ a b (ap (λ (g : History). here (position g) e m (AtMost x)) same ∙ ap (λ z. here (position start) e m (AtMost z)) is) h
 
-pub least-written : (start now : Course) (e : ℕ) (m : Move) (v x : ℤ) (r : Bool) (a b : Told) → now ≡ start → x ≡ neg_ℤ v → Wrote r (here (position now) e m (AtLeast x)) a b → Wrote r (here (position start) e m (AtLeast (neg_ℤ v))) a b
+pub least-written : (start now : History) (e : ℕ) (m : Move) (v x : ℤ) (r : Bool) (a b : Told) → now ≡ start → x ≡ neg_ℤ v → Wrote r (here (position now) e m (AtLeast x)) a b → Wrote r (here (position start) e m (AtLeast (neg_ℤ v))) a b
 least-written start now e m v x r a b same is h =
-    wrote-as r _ _ a b (ap (λ (g : Course). here (position g) e m (AtLeast x)) same ∙ ap (λ z. here (position start) e m (AtLeast z)) is) h
+    wrote-as r _ _ a b (ap (λ (g : History). here (position g) e m (AtLeast x)) same ∙ ap (λ z. here (position start) e m (AtLeast z)) is) h
 
-pub behind-written : (start now : Course) (e k count : ℕ) (v x : ℤ) (r : Bool) (a b : Told) → now ≡ start → x ≡ neg_ℤ v → count ≡ length (moves (position start)) →
+pub behind-written : (start now : History) (e k count : ℕ) (v x : ℤ) (r : Bool) (a b : Told) → now ≡ start → x ≡ neg_ℤ v → count ≡ length (moves (position start)) →
     Wrote r (lines_below (position now) e (AtLeast x) (range_of (moves (position now)) (k + 1) count)) a b → Wrote r (behind (position start) e k v) a b
 behind-written start now e k count v x r a b same is all h =
-    wrote-as r _ _ a b (ap (λ (g : Course). lines_below (position g) e (AtLeast x) (range_of (moves (position g)) (k + 1) count)) same
+    wrote-as r _ _ a b (ap (λ (g : History). lines_below (position g) e (AtLeast x) (range_of (moves (position g)) (k + 1) count)) same
     ∙ ap (λ z. lines_below (position start) e (AtLeast z) (range_of (moves (position start)) (k + 1) count)) is
     ∙ ap (lines_below (position start) e (AtLeast (neg_ℤ v))) (range-behind (moves (position start)) (k + 1) count all)) h
 
@@ -127,42 +127,42 @@ place-at m ms o k is found = place-here m ms k (sym is ∙ found)
 
 -- ---- a whole certificate
 
-abbrev pub head : Course → ℕ → Move → ℤ → List ℕ
+abbrev pub head : History → ℕ → Move → ℤ → List ℕ
 head c d m v = head_text 1 c.game_type c.made d m v
 
-abbrev pub whole : Course → ℕ → Move → ℤ → List ℕ
+abbrev pub whole : History → ℕ → Move → ℤ → List ℕ
 whole c d m v = certificate c.game_type c.made d m v
 
-whole-is : (c : Course) (d : ℕ) (m : Move) (v : ℤ) → head c d m v ++ index_lines (least_indices (position c) d m v) ≡ whole c d m v
+whole-is : (c : History) (d : ℕ) (m : Move) (v : ℤ) → head c d m v ++ index_lines (least_indices (position c) d m v) ≡ whole c d m v
 unfolding certificate
 whole-is c d m v = refl
 
-head-written : (start now : Course) (d : ℕ) (m : Move) (v : ℤ) (r : Bool) (bytes : List ℕ) (a b : Told) → now ≡ start → bytes ≡ head now d m v → OnTrue r (b ≡ written_behind a bytes) →
+head-written : (start now : History) (d : ℕ) (m : Move) (v : ℤ) (r : Bool) (bytes : List ℕ) (a b : Told) → now ≡ start → bytes ≡ head now d m v → OnTrue r (b ≡ written_behind a bytes) →
     OnFalse r ((n : ℕ) × (n < length bytes) × (b ≡ written_behind a (take n bytes))) → Wrote r (head start d m v) a b
-head-written start now d m v r bytes a b same is all part = index-written r bytes (head start d m v) a b (is ∙ ap (λ (c : Course). head c d m v) same) all part
+head-written start now d m v r bytes a b same is all part = index-written r bytes (head start d m v) a b (is ∙ ap (λ (c : History). head c d m v) same) all part
 
-head-cut : (c : Course) (d : ℕ) (m : Move) (v : ℤ) (r : Bool) (a b : Told) → r ≡ false → Wrote r (head c d m v) a b → Wrote false (whole c d m v) a b
+head-cut : (c : History) (d : ℕ) (m : Move) (v : ℤ) (r : Bool) (a b : Told) → r ≡ false → Wrote r (head c d m v) a b → Wrote false (whole c d m v) a b
 head-cut c d m v r a b cut h = wrote-as false _ _ a b (whole-is c d m v) (wrote-stop (head c d m v) _ a b (wrote-is r false _ a b cut h))
 
-whole-written : (start now : Course) (d : ℕ) (m : Move) (v : ℤ) (r s : Bool) (a b e : Told) → now ≡ start → r ≡ true → Wrote r (head start d m v) a b →
+whole-written : (start now : History) (d : ℕ) (m : Move) (v : ℤ) (r s : Bool) (a b e : Told) → now ≡ start → r ≡ true → Wrote r (head start d m v) a b →
     Wrote s (index_lines (least_indices (position now) d m v)) b e → Wrote s (whole start d m v) a e
 whole-written start now d m v r s a b e same all first later =
     wrote-as s _ _ a e (whole-is start d m v) (wrote-then s (head start d m v) (index_lines (least_indices (position start) d m v)) a b e (wrote-is r true _ a b all first)
-    (wrote-as s _ _ b e (ap (λ (c : Course). index_lines (least_indices (position c) d m v)) same) later))
+    (wrote-as s _ _ b e (ap (λ (c : History). index_lines (least_indices (position c) d m v)) same) later))
 
 -- an initial part of the certificate of the best move and the value of the position
-pub part-of : (c : Course) (d : ℕ) (m : Move) (v : ℤ) (a b : Told) → best (position c) d ≡ Some m → v ≡ value (position c) d → Wrote false (whole c d m v) a b →
+pub part-of : (c : History) (d : ℕ) (m : Move) (v : ℤ) (a b : Told) → best (position c) d ≡ Some m → v ≡ value (position c) d → Wrote false (whole c d m v) a b →
     Wrote false (certificate_of c d (best (position c) d)) a b
 part-of c d m v a b is worth h = wrote-as false _ _ a b (ap (whole c d m) worth ∙ ap (certificate_of c d) (sym is)) h
 
 -- if the head was cut off
-pub head-part : (start now : Course) (d : ℕ) (m : Move) (v : ℤ) (r : Bool) (bytes : List ℕ) (a b : Told) → now ≡ start → bytes ≡ head now d m v → OnTrue r (b ≡ written_behind a bytes) →
+pub head-part : (start now : History) (d : ℕ) (m : Move) (v : ℤ) (r : Bool) (bytes : List ℕ) (a b : Told) → now ≡ start → bytes ≡ head now d m v → OnTrue r (b ≡ written_behind a bytes) →
     OnFalse r ((n : ℕ) × (n < length bytes) × (b ≡ written_behind a (take n bytes))) → best (position start) d ≡ Some m → v ≡ value (position start) d → r ≡ false → Wrote false (certificate_of start d (best (position start) d)) a b
 head-part start now d m v r bytes a b same is all part first worth cut =
     part-of start d m v a b first worth (head-cut start d m v r a b cut (head-written start now d m v r bytes a b same is all part))
 
 -- if the head was written, and then this part of the indices
-pub both-written : (start now : Course) (d : ℕ) (m : Move) (v : ℤ) (r s : Bool) (bytes : List ℕ) (a b e : Told) → now ≡ start → bytes ≡ head now d m v → OnTrue r (b ≡ written_behind a bytes) →
+pub both-written : (start now : History) (d : ℕ) (m : Move) (v : ℤ) (r s : Bool) (bytes : List ℕ) (a b e : Told) → now ≡ start → bytes ≡ head now d m v → OnTrue r (b ≡ written_behind a bytes) →
     OnFalse r ((n : ℕ) × (n < length bytes) × (b ≡ written_behind a (take n bytes))) → r ≡ true → Wrote s (index_lines (least_indices (position now) d m v)) b e → Wrote s (whole start d m v) a e
 both-written start now d m v r s bytes a b e same is all part done later =
     whole-written start now d m v r s a b e same done (head-written start now d m v r bytes a b same is all part) later

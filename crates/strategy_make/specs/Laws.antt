@@ -7,7 +7,7 @@ use Rattle.hive_model.specs.Lists.{IsOn}
 use Rattle.hive_model.specs.Positions.{Position, opening}
 use Rattle.hive_model.specs.Legal.{moves}
 use Rattle.hive_model.specs.Games.{replay, IsGame}
-use Rattle.hive_model.specs.Courses.{Course, position}
+use Rattle.hive_model.specs.Histories.{History, position}
 use Rattle.hive_model.specs.Minimax.{IsInner, value, best}
 use Rattle.hive_model.specs.Denotes.{text}
 use Rattle.io_edge.specs.Lines.{lines}
@@ -45,7 +45,7 @@ pub record MayClaim (t : GameType) (ms : List Move) (d : ℕ) (m : Move) (v : �
   pub small : IsSmall 1000064 v
 
 -- the best move of a game at a depth, and its value; a certificate may claim both
-pub record IsBestAnswer (c : Course) (depth : ℕ) (b : Best) : Type 0 where
+pub record IsBestAnswer (c : History) (depth : ℕ) (b : Best) : Type 0 where
   pub first : best (position c) depth ≡ Some b.best
   pub worth : b.value ≡ value (position c) depth
   pub claim : MayClaim c.game_type c.made depth b.best b.value

@@ -7,7 +7,7 @@ use Rattle.hive_model.specs.declared.best.Best.{Best}
 use Rattle.hive_model.specs.Positions.{Position, opening}
 use Rattle.hive_model.specs.Legal.{is_over, moves}
 use Rattle.hive_model.specs.Games.{replay}
-use Rattle.hive_model.specs.Courses.{Course, position}
+use Rattle.hive_model.specs.Histories.{History, position}
 use Rattle.hive_model.specs.Minimax.{value, best}
 use Rattle.certificate_walks.specs.Walks.{place_of}
 use Rattle.strategy_check.specs.Least.{least_moves}
@@ -18,7 +18,7 @@ use Rattle.strategy_make.specs.declared.fault.MakeFault.TheVariants.{WriteFault,
 
 -- A game for whose best move at a depth a certificate may be made. It is not over, and has at most
 -- 5,000 moves. The depth is from 1 to 64, and there is room for that number of plies.
-pub record MayMake (c : Course) (depth : ℕ) : Type 0 where
+pub record MayMake (c : History) (depth : ℕ) : Type 0 where
   pub goes_on : is_over (position c) ≡ false
   pub few : length c.made ≤ 5000
   pub some : 1 ≤ depth
@@ -42,14 +42,14 @@ certificate t ms d m v =
     head_text 1 t ms d m v ++ index_lines (least_indices (replay (opening t) ms) d m v)
 
 -- the certificate of this move and of the value of the game's position; nothing if there is no move
-abbrev pub certificate_of : Course → ℕ → Option Move → List ℕ
+abbrev pub certificate_of : History → ℕ → Option Move → List ℕ
 certificate_of c d None = []
 certificate_of c d (Some m) = certificate c.game_type c.made d m (value (position c) d)
 
 -- What was written, by the answer: the certificate of the answered move and value; if a write
 -- failed, the first n bytes of the certificate of the best move, and not all; if memory ran out,
 -- nothing.
-abbrev pub Makes : Result Best MakeFault → Course → ℕ → Told → Told → Type 0
+abbrev pub Makes : Result Best MakeFault → History → ℕ → Told → Told → Type 0
 Makes (Ok b) c d old new = new ≡ behind old (certificate c.game_type c.made d b.best b.value)
 Makes (Err WriteFault) c d old new =
     (n : ℕ) × (n < length (certificate_of c d (best (position c) d)))

@@ -4,7 +4,7 @@ ghost use Rattle.std.specs.Prelude.{◌≡◌, IfOk};
 ghost use Rattle.hive_model.specs.Lists.{IsOn};
 ghost use Rattle.hive_model.specs.Legal.{moves};
 ghost use Rattle.hive_model.specs.Games.{IsGame};
-ghost use Rattle.hive_model.specs.Courses.{position};
+ghost use Rattle.hive_model.specs.Histories.{position};
 ghost use Rattle.certificate_text.specs.Text.{head_text};
 
 use certificate_text::write_head;
@@ -23,11 +23,12 @@ pub(crate) fn head_of<G: Game + Drop>(
     depth: u32,
     best: &Best,
 ) -> Result<ReplyText, AllocError>
-    requires { IsOn (moves (position (G.course game.now))) best.now.best }
+    requires { IsOn (moves (position (G.history game.now))) best.now.best }
     ensures head { IfOk result (λ t. t ≡ head_text 1
-        (G.course game.now).game_type (G.course game.now).made depth best.now.best best.now.value) }
-    ensures game { IfOk result (λ t. IsGame (G.course game.now).game_type
-        (G.course game.now).made) }
+        (G.history game.now).game_type
+        (G.history game.now).made depth best.now.best best.now.value) }
+    ensures game { IfOk result (λ t. IsGame (G.history game.now).game_type
+        (G.history game.now).made) }
 {
     let claim = Claim {
         depth,

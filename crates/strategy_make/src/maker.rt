@@ -29,14 +29,14 @@ pub fn make<G: Game + Drop, K: Sink>(
     depth: u32,
     sink: &mut K,
 ) -> Result<Best, MakeFault>
-    requires game { MayMake (G.course game.old) depth }
+    requires game { MayMake (G.history game.old) depth }
     requires prepared { depth ≤ searcher.old }
-    ensures best { IfOk result (λ b. IsBestAnswer (G.course game.old) depth b) }
-    ensures written { Makes result (G.course game.old) depth (K.written sink.old)
+    ensures best { IfOk result (λ b. IsBestAnswer (G.history game.old) depth b) }
+    ensures written { Makes result (G.history game.old) depth (K.written sink.old)
         (K.written sink.new) }
     ensures cause { HasCause (result ≡ Err MakeFault.WriteFault)
         (K.write_faults sink.old) (K.write_faults sink.new) }
-    ensures game { G.course game.new ≡ G.course game.old }
+    ensures game { G.history game.new ≡ G.history game.old }
     ensures searcher { searcher.new ≡ searcher.old }
 {
     let best = searcher.best_at(game, depth);

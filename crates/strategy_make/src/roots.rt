@@ -5,7 +5,7 @@ ghost use Rattle.io_edge.specs.Outside.{HasCause};
 ghost use Rattle.hive_model.specs.Lists.{IsOn};
 ghost use Rattle.hive_model.specs.Legal.{moves};
 ghost use Rattle.hive_model.specs.Minimax.{IsInner};
-ghost use Rattle.hive_model.specs.Courses.{position};
+ghost use Rattle.hive_model.specs.Histories.{position};
 ghost use Rattle.search_laws.specs.Laws.{IsSmall};
 ghost use Rattle.search_laws.specs.Nodes.{HasRoom, AreAsBefore};
 ghost use Rattle.strategy_check.specs.Least.{least_moves};
@@ -31,16 +31,16 @@ fn write_root<G: Game, J: Judge, K: Sink>(
     stack: &mut MoveStack,
     sink: &mut K,
 ) -> bool
-    requires replies { HasReplies depth level (G.course game.old) stack.old }
+    requires replies { HasReplies depth level (G.history game.old) stack.old }
     requires ready { depth ≤ J.prepared judge.old }
     requires small { IsSmall 1000064 best.now.value }
-    requires place { slice_get (moves (position (G.course game.old))) place ≡ Some best.now.best }
+    requires place { slice_get (moves (position (G.history game.old))) place ≡ Some best.now.best }
     ensures wrote { Wrote result
         (index_lines (least_moves (position
-        (G.course game.old)) depth place best.now.best best.now.value))
+        (G.history game.old)) depth place best.now.best best.now.value))
         (K.written sink.old) (K.written sink.new) }
     ensures cause { HasCause (result ≡ false) (K.write_faults sink.old) (K.write_faults sink.new) }
-    ensures before { AreAsBefore (G.course game.old) (G.course game.new) stack.old stack.new }
+    ensures before { AreAsBefore (G.history game.old) (G.history game.new) stack.old stack.new }
     ensures same { J.prepared judge.new ≡ J.prepared judge.old }
 {
     let count = stack.level_len(level);
@@ -71,17 +71,17 @@ pub(crate) fn write_least<G: Game, J: Judge, K: Sink>(
     stack: &mut MoveStack,
     sink: &mut K,
 ) -> bool
-    requires inner { IsInner (position (G.course game.old)) depth }
-    requires room { HasRoom depth (G.course game.old) stack.old }
+    requires inner { IsInner (position (G.history game.old)) depth }
+    requires room { HasRoom depth (G.history game.old) stack.old }
     requires ready { depth ≤ J.prepared judge.old }
     requires small { IsSmall 1000064 best.now.value }
-    requires legal { IsOn (moves (position (G.course game.old))) best.now.best }
+    requires legal { IsOn (moves (position (G.history game.old))) best.now.best }
     ensures wrote { Wrote result
         (index_lines (least_indices (position
-        (G.course game.old)) depth best.now.best best.now.value))
+        (G.history game.old)) depth best.now.best best.now.value))
         (K.written sink.old) (K.written sink.new) }
     ensures cause { HasCause (result ≡ false) (K.write_faults sink.old) (K.write_faults sink.new) }
-    ensures before { AreAsBefore (G.course game.old) (G.course game.new) stack.old stack.new }
+    ensures before { AreAsBefore (G.history game.old) (G.history game.new) stack.old stack.new }
     ensures same { J.prepared judge.new ≡ J.prepared judge.old }
 {
     let level = stack.levels();

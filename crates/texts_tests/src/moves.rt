@@ -60,7 +60,7 @@ fn no_text(at: u32) -> Result<Move, MoveFault> {
 }
 
 fn read(game_type: GameType, board: &PlainBoard, text: &str) -> Result<Move, MoveFault> {
-    board.is_board();
+    board.lemma_board();
     let bytes = text.as_bytes();
     let end = bytes.len().min(16);
     read_move(game_type, board, &bytes[..end])
@@ -73,7 +73,7 @@ fn put(board: &mut PlainBoard, piece: Piece, q: i8, r: i8) {
 }
 
 fn written(board: &PlainBoard, piece: Piece, q: i8, r: i8) -> ArrayString<16> {
-    board.is_board();
+    board.lemma_board();
     write_move(
         board,
         Move::To {
@@ -84,7 +84,7 @@ fn written(board: &PlainBoard, piece: Piece, q: i8, r: i8) -> ArrayString<16> {
 }
 
 fn written_pass(board: &PlainBoard) -> ArrayString<16> {
-    board.is_board();
+    board.lemma_board();
     write_move(board, Move::Pass)
 }
 

@@ -8,7 +8,7 @@ use Rattle.hive_model.specs.declared.places.Place.{Place}
 use Rattle.hive_model.specs.declared.places.Spot.{Spot}
 use Rattle.hive_model.specs.Boards.{Stacks, spot_of, is_on_top, is_top_spot, top_at, height_at, is_occupied, under_of, put, lift}
 use Rattle.hive_model.specs.Spots.{Spots, IsSpots, HasSpot, board_of, height_by, spots_put, is_at}
-use Rattle.hive_model.proofs.SpotLemmas.{is_board, board_has, height_is, spots_put_is, board_of-put, spots_lift_is, board_of-lift, absent_is, on_top_is, spot_is, no_spots}
+use Rattle.hive_model.proofs.SpotLemmas.{lemma_board, board_has, height_is, spots_put_is, board_of-put, spots_lift_is, board_of-lift, absent_is, on_top_is, spot_is, no_spots}
 use Rattle.hive_model.proofs.GetLemmas.{get_exists}
 use Rattle.hive_model.proofs.LiftLemmas as lifts
 use Rattle.hive_model.proofs.PlaceLemmas.{is_other_place}
@@ -107,10 +107,10 @@ module _ (n : ℕ) (s : Spots) (below : List (Option ℕ)) (towers : List Tower)
             is.1,
             spots_put_is s is.2 x p free within,
             subst (λ c. IsLinked c (slice_set below i top)) (sym made) (subst (λ m. IsLinked (put (board_of s) x p) (slice_set below m top)) (sym at_i) (subst (λ t. IsLinked (put (board_of s) x p) (slice_set below x t)) (sym top_is)
-                (linked_put n some (board_of s) (is_board s is.2) x p small within off close below is.3))),
-            subst (IsSpread n) (sym made) (spread_put n some (board_of s) (is_board s is.2) x p small within off close is.4),
+                (linked_put n some (board_of s) (lemma_board s is.2) x p small within off close below is.3))),
+            subst (IsSpread n) (sym made) (spread_put n some (board_of s) (lemma_board s is.2) x p small within off close is.4),
             subst (λ c. HasTowers n c (risen k h)) (sym made) (subst (λ m. HasTowers n (put (board_of s) x p) (risen m h)) (sym at_k) (subst (λ l. HasTowers n (put (board_of s) x p) (risen (cell_of n p) l)) (sym height)
-                (towers_put n some (board_of s) (is_board s is.2) x p small within off close towers is.5))),
+                (towers_put n some (board_of s) (lemma_board s is.2) x p small within off close towers is.5))),
           )
 
       put_others : (q : Place) → q ≢ p → is_occupied (board_of (slice_set s j (Some (record { place = p; level = h })))) q ≡ is_occupied (board_of s) q
@@ -118,7 +118,7 @@ module _ (n : ℕ) (s : Spots) (below : List (Option ℕ)) (towers : List Tower)
 
       put_on : is_occupied (board_of (slice_set s j (Some (record { place = p; level = h })))) p ≡ true
       put_on = ap (λ c. is_occupied c p) (ap board_of written ∙ made)
-          ∙ ap (nat_lt 0) (put_height (board_of s) x p (is_board s is.2) small within off)
+          ∙ ap (nat_lt 0) (put_height (board_of s) x p (lemma_board s is.2) small within off)
           ∙ some_height (height_at (board_of s) p + 1) (omega arith)
 
       -- the place came to be occupied where it was not, and no other did
@@ -158,21 +158,21 @@ module _ (n : ℕ) (s : Spots) (below : List (Option ℕ)) (towers : List Tower)
             is.1,
             spots_lift_is s is.2 x t.place t.level stands top_here,
             subst (λ c. IsLinked c (slice_set below i None)) (sym left) (subst (λ m. IsLinked (lift (board_of s) x) (slice_set below m None)) (sym at_i)
-                (linked_lift n some (board_of s) (is_board s is.2) is.4 x t.place t.level (board_has s is.2 x t.place t.level stands) high below small is.3)),
-            subst (IsSpread n) (sym left) (spread_lift n some (board_of s) (is_board s is.2) is.4 x t.place t.level (board_has s is.2 x t.place t.level stands) high),
+                (linked_lift n some (board_of s) (lemma_board s is.2) is.4 x t.place t.level (board_has s is.2 x t.place t.level stands) high below small is.3)),
+            subst (IsSpread n) (sym left) (spread_lift n some (board_of s) (lemma_board s is.2) is.4 x t.place t.level (board_has s is.2 x t.place t.level stands) high),
             subst (λ c. HasTowers n c (sunk k o)) (sym left) (subst (λ m. HasTowers n (lift (board_of s) x) (sunk m o)) (sym at_k) (subst (λ u. HasTowers n (lift (board_of s) x) (sunk (cell_of n t.place) u)) (sym under)
-                (towers_lift n some (board_of s) (is_board s is.2) is.4 x t.place t.level (board_has s is.2 x t.place t.level stands) high towers is.5))),
+                (towers_lift n some (board_of s) (lemma_board s is.2) is.4 x t.place t.level (board_has s is.2 x t.place t.level stands) high towers is.5))),
           )
 
       lift_others : (q : Place) → q ≢ t.place → is_occupied (board_of (slice_set s j None)) q ≡ is_occupied (board_of s) q
       lift_others q other = ap (λ c. is_occupied c q) (ap (λ m. board_of (slice_set s m None)) at_j ∙ left)
-          ∙ ap (nat_lt 0) (lifts.height_there (board_of s) (is_board s is.2) x t.place t.level (board_has s is.2 x t.place t.level stands) high q (is_other_place q t.place other))
+          ∙ ap (nat_lt 0) (lifts.height_there (board_of s) (lemma_board s is.2) x t.place t.level (board_has s is.2 x t.place t.level stands) high q (is_other_place q t.place other))
 
       -- the place came to be empty where no piece is left, and no other did
       pub lift_turned : IsTurned (board_of s) (board_of (slice_set s j None)) t.place (nat_eq t.level 0)
       lift_turned = record {
         here = ap (λ c. is_occupied c t.place) (ap (λ m. board_of (slice_set s m None)) at_j ∙ left)
-            ∙ ap (nat_lt 0) (lifts.height_here (board_of s) (is_board s is.2) x t.place t.level (board_has s is.2 x t.place t.level stands) high)
+            ∙ ap (nat_lt 0) (lifts.height_here (board_of s) (lemma_board s is.2) x t.place t.level (board_has s is.2 x t.place t.level stands) high)
             ∙ now_low t.level (nat_lt 0 (height_at (board_of s) t.place)) (some_height (height_at (board_of s) t.place) (omega (arith, high)));
         there = lift_others;
       }

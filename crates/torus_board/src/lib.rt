@@ -125,7 +125,7 @@ impl<const SIDE: usize> Board for Torus<SIDE> {
         spot_in(&self.spots, piece)
     }
 
-    fn is_board(&self) {
+    fn lemma_board(&self) {
         spots_are_board(&self.spots);
     }
 

@@ -126,7 +126,7 @@ was-run {t} {number} {f} {s} {made} {r} {w0} {w} {b0} {b} {c0} {c} {told} ran be
       read_before = c0.last;
       read_now = c.last;
       ran = over.links;
-      timed = over.course;
+      timed = over.history;
       late = over.late;
       tells = tells ∙ ap (λ x. match_outcome x number f r) same;
     }

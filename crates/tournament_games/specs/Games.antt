@@ -4,7 +4,7 @@ use Rattle.hive_model.specs.declared.pieces.Colour.{Colour}
 use Rattle.hive_model.specs.declared.pieces.Colour.TheVariants.{White, Black}
 use Rattle.match_core.specs.MatchState.{MatchState}
 use Rattle.match_runner.specs.Wires.{Wire}
-use Rattle.match_runner.specs.Runs.{HasTimedCourse, LateIn, RanLinks}
+use Rattle.match_runner.specs.Runs.{HasTimedHistory, LateIn, RanLinks}
 use Rattle.tournament_core.specs.declared.fixtures.Fixture.{Fixture}
 use Rattle.tournament_core.specs.declared.plan.Plan.{Plan}
 use Rattle.tournament_core.specs.Schedules.{schedule}
@@ -55,7 +55,7 @@ pub record WasRun
   pub read_before : ℕ
   pub read_now : ℕ
   pub ran : RanLinks (setup_in t f) stands w0 w b0 b
-  pub timed : HasTimedCourse (setup_in t f) stands read_before read_now
+  pub timed : HasTimedHistory (setup_in t f) stands read_before read_now
   pub late : LateIn stands.verdict read_before read_now
   pub tells : told ≡ match_outcome t.setup number f stands
 

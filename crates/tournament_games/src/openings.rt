@@ -7,10 +7,10 @@ use std::alloc::{AllocError, Global};
 
 /// The moves of an unfinished game, as an opening. The only error is running out of memory.
 pub fn opening_of<G: Game>(alloc: Global, game: &G) -> Result<MoveList, AllocError>
-    ensures moves { IfOk result (λ moves. moves ≡ (G.course game.now).made) }
-    ensures valid { IfOk result (λ moves. IsOpening (G.course game.now).game_type moves) }
+    ensures moves { IfOk result (λ moves. moves ≡ (G.history game.now).made) }
+    ensures valid { IfOk result (λ moves. IsOpening (G.history game.now).game_type moves) }
 {
-    game.is_sound();
+    game.lemma_sound();
     let mut moves = MoveList::new(alloc);
     for place in 0..game.plies() {
         moves.push(game.move_at(place))?;

@@ -2,7 +2,7 @@
 ghost use Rattle.std.specs.Prelude.{◌≡◌, ◌≤◌, ◌++◌, decimal, length, map, OnOk, IfOk};
 ghost use Rattle.std.specs.List.{flat_map};
 ghost use Rattle.hive_model.specs.Games.{IsGame};
-ghost use Rattle.hive_model.specs.Courses.{most_plies};
+ghost use Rattle.hive_model.specs.Histories.{most_plies};
 ghost use Rattle.cup.specs.Cup.{state_winner};
 ghost use Rattle.match_command.specs.Texts.{ending_text, shown};
 ghost use Rattle.cup_command.specs.Texts.{text_of};
@@ -106,9 +106,9 @@ fn write_game<G: Game + Drop>(
     fixture: Fixture,
     game: &G,
 ) -> Result<(), AllocError>
-    requires { (G.course game.now).game_type ≡ setup.game_type }
+    requires { (G.history game.now).game_type ≡ setup.game_type }
     ensures { OnOk result (out.new
-        ≡ out.old ++ game_line setup number fixture (G.course game.now).made) }
+        ≡ out.old ++ game_line setup number fixture (G.history game.now).made) }
 {
     out.push_all(b"game ")?;
     write_numbers(out, number, fixture)?;

@@ -2,7 +2,7 @@
 ghost use Rattle.std.specs.Prelude.{◌≡◌, ◌≤◌, length};
 ghost use Rattle.std.specs.List.{All};
 ghost use Rattle.hive_model.specs.Games.{IsGame};
-ghost use Rattle.hive_model.specs.Courses.{most_plies};
+ghost use Rattle.hive_model.specs.Histories.{most_plies};
 ghost use Rattle.match_core.specs.Keeps.{IsSetup};
 ghost use Rattle.tournament_core.specs.Schedules.{IsPlan};
 ghost use Rattle.tournament_record.specs.Openings.{IsOpening};

@@ -4,7 +4,7 @@ use Rattle.std.specs.List.{flat_map}
 use Rattle.hive_model.specs.declared.pieces.GameType.{GameType}
 use Rattle.hive_model.specs.declared.places.Move.{Move}
 use Rattle.hive_model.specs.Games.{IsGame}
-use Rattle.hive_model.specs.Courses.{most_plies}
+use Rattle.hive_model.specs.Histories.{most_plies}
 use Rattle.hive_model.specs.Strings.{string}
 use Rattle.sha2.specs.Sha256.{sha256}
 

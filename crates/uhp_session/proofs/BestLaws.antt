@@ -3,7 +3,7 @@ use Rattle.std.proofs.Common.{◌≡◌, ℕ, ap, subst}
 use Rattle.std.specs.Prelude.{Some}
 use Rattle.hive_model.specs.declared.places.Move.{Move}
 use Rattle.hive_model.specs.Legal.{moves}
-use Rattle.hive_model.specs.Courses.{Course, position}
+use Rattle.hive_model.specs.Histories.{History, position}
 use Rattle.hive_model.specs.Lists.{IsOn}
 use Rattle.hive_model.specs.Minimax.{IsInner, IsBest, best}
 use Rattle.hive_model.specs.Positions.{Position}
@@ -21,6 +21,6 @@ best_named g depth goes_on some =
     let found = best-exists (reached g) depth inner in
     (found.0, best-is (reached g) depth found.0 found.1, ap (text_of_best (reached g).board) found.1)
 
--- the same for a course with the game's type and moves
-pub best_on_course : (c : Course) (g : CurrentGame) (depth : ℕ) (m : Move) → position c ≡ reached g → best (position c) depth ≡ Some m → IsOn (moves (reached g)) m
-best_on_course c g depth m same e = subst (λ p. IsOn (moves p) m) same (best_on (position c) depth m e)
+-- the same for a history with the game's type and moves
+pub best_on_history : (c : History) (g : CurrentGame) (depth : ℕ) (m : Move) → position c ≡ reached g → best (position c) depth ≡ Some m → IsOn (moves (reached g)) m
+best_on_history c g depth m same e = subst (λ p. IsOn (moves p) m) same (best_on (position c) depth m e)

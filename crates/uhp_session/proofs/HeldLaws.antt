@@ -4,7 +4,7 @@ use Rattle.std.proofs.Common.{◌≡◌, ℕ, suc, ◌-◌, ◌<◌, Bool, true,
 use Rattle.std.specs.Prelude.{Option, Some, None, codes, nat_le, nat_lt}
 use Rattle.std.proofs.lemmas.Bool.{leb-false}
 use Rattle.hive_model.specs.declared.places.Move.{Move}
-use Rattle.hive_model.specs.Courses.{is_listed}
+use Rattle.hive_model.specs.Histories.{is_listed}
 use Rattle.hive_model.specs.Games.{after, replay, AreLegal}
 use Rattle.hive_model.specs.Legal.{moves}
 use Rattle.io_edge.specs.Lines.{Text as TextLine, TooLong as LongLine}

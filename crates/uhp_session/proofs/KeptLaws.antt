@@ -12,22 +12,22 @@ use Rattle.hive_model.specs.Games.{after, replay}
 use Rattle.hive_model.specs.Denotes.{text}
 use Rattle.hive_model.specs.Keys.{KeyParts, key}
 use Rattle.hive_model.specs.Repetition.{positions, keys}
-use Rattle.hive_model.specs.Courses.{Course, position, with_move, without_last}
+use Rattle.hive_model.specs.Histories.{History, position, with_move, without_last}
 use Rattle.hive_model.specs.Strings.{texts}
 use Rattle.game_text.specs.Seen.{keys_kept}
 use Rattle.game_text.proofs.OpenLaws.{keys_size}
 use Rattle.game_text.proofs.WriteLaws.{taken_size}
 use Rattle.move_text.specs.Moves.{IsMoveWithin}
 use Rattle.move_text.proofs.LegalSpell.{listed_within}
-use Rattle.search_laws.proofs.CourseLaws.{take-all_but_last}
+use Rattle.search_laws.proofs.HistoryLaws.{take-all_but_last}
 use Rattle.uhp_session.specs.Answers.{CurrentGame, reached}
 
--- The position of a course with the game's type and moves
+-- The position of a history with the game's type and moves
 
-pub same_place : (c : Course) (g : CurrentGame) → c.game_type ≡ g.game_type → c.made ≡ g.made → position c ≡ reached g
+pub same_place : (c : History) (g : CurrentGame) → c.game_type ≡ g.game_type → c.made ≡ g.made → position c ≡ reached g
 same_place c g kind made = λ j. replay (opening (kind j)) (made j)
 
-pub kept_within : (c : Course) (g : CurrentGame) (m : Move) → c.game_type ≡ g.game_type → c.made ≡ g.made → IsSound (position c) → IsOn (moves (reached g)) m → IsMoveWithin m
+pub kept_within : (c : History) (g : CurrentGame) (m : Move) → c.game_type ≡ g.game_type → c.made ≡ g.made → IsSound (position c) → IsOn (moves (reached g)) m → IsMoveWithin m
 kept_within c g m kind made sound on =
     let here : IsOn (moves (position c)) m = subst (λ p. IsOn (moves p) m) (sym (same_place c g kind made)) on in
     listed_within (position c) m sound here
@@ -49,17 +49,17 @@ texts_part p (k ∷ ms) zero = refl
 texts_part p (k ∷ ms) (suc n) = ap (λ (r : List (List ℕ)). text p.board k ∷ r) (texts_part (after p k) ms n)
 
 -- a move is made, and its text on the board before it is kept
-pub written_more : (c d e : Course) (old new : List (List ℕ)) (b : Stacks) (m k : Move) → d.game_type ≡ c.game_type → d.made ≡ c.made → e ≡ with_move d m
+pub written_more : (c d e : History) (old new : List (List ℕ)) (b : Stacks) (m k : Move) → d.game_type ≡ c.game_type → d.made ≡ c.made → e ≡ with_move d m
     → old ≡ texts (opening c.game_type) c.made → b ≡ (position d).board → k ≡ m → new ≡ old ++ text b k ∷ [] → new ≡ texts (opening e.game_type) e.made
 written_more c d e old new b m k kind made moved before board same pushed =
     let board2 : b ≡ (position c).board = board ∙ (λ i. (replay (opening (kind i)) (made i)).board) in
-    let kind2 : e.game_type ≡ c.game_type = ap (λ (z : Course). z.game_type) moved ∙ kind in
-    let made2 : e.made ≡ c.made ++ m ∷ [] = ap (λ (z : Course). z.made) moved ∙ ap (λ (r : List Move). r ++ m ∷ []) made in
+    let kind2 : e.game_type ≡ c.game_type = ap (λ (z : History). z.game_type) moved ∙ kind in
+    let made2 : e.made ≡ c.made ++ m ∷ [] = ap (λ (z : History). z.made) moved ∙ ap (λ (r : List Move). r ++ m ∷ []) made in
     pushed ∙ (λ i. before i ++ text (board2 i) (same i) ∷ []) ∙ sym (texts_more (opening c.game_type) c.made m)
     ∙ sym (λ i. texts (opening (kind2 i)) (made2 i))
 
 -- the last move is taken back, and its text is dropped
-pub written_less : (c e : Course) (old new : List (List ℕ)) → e ≡ without_last c → old ≡ texts (opening c.game_type) c.made → new ≡ take (length old - 1) old
+pub written_less : (c e : History) (old new : List (List ℕ)) → e ≡ without_last c → old ≡ texts (opening c.game_type) c.made → new ≡ take (length old - 1) old
     → new ≡ texts (opening e.game_type) e.made
 written_less c e old new back before popped =
     let whole = texts (opening c.game_type) c.made in
@@ -87,26 +87,26 @@ keys_less t ms some =
     ap (λ n. take n (map key (positions (opening t) ms))) last ∙ keys_part (opening t) ms (length ms - 1) (omega arith)
 
 -- the last move is taken back, and the key of its position is dropped
-pub sees_back : (r s : Bool) (ks less : List KeyParts) (c d : Course) → 1 ≤ length c.made → ks ≡ keys_kept r c → d ≡ without_last c → s ≡ r
+pub sees_back : (r s : Bool) (ks less : List KeyParts) (c d : History) → 1 ≤ length c.made → ks ≡ keys_kept r c → d ≡ without_last c → s ≡ r
     → less ≡ (if r then take (length ks - 1) ks else ks) → less ≡ keys_kept s d
 sees_back r s ks less c d some h back same popped = subst (λ z. less ≡ keys_kept z d) (sym same) (go r h popped)
   where
     go : (r : Bool) → ks ≡ keys_kept r c → less ≡ (if r then take (length ks - 1) ks else ks) → less ≡ keys_kept r d
     go true e f =
         f ∙ ap (λ (z : List KeyParts). take (length z - 1) z) e ∙ keys_less c.game_type c.made some
-        ∙ ap (λ (z : Course). keys z.game_type z.made) (sym back)
+        ∙ ap (λ (z : History). keys z.game_type z.made) (sym back)
     go false e f = f ∙ e
 
 -- The number of moves
 
-pub few_more : (c d e : Course) (m : Move) → d.made ≡ c.made → e ≡ with_move d m → length c.made < 5000 → length e.made ≤ 5000
+pub few_more : (c d e : History) (m : Move) → d.made ≡ c.made → e ≡ with_move d m → length c.made < 5000 → length e.made ≤ 5000
 few_more c d e m made moved less =
-    let size : length e.made ≡ length (c.made ++ m ∷ []) = ap (λ (z : Course). length z.made) moved ∙ ap (λ (r : List Move). length (r ++ m ∷ [])) made in
+    let size : length e.made ≡ length (c.made ++ m ∷ []) = ap (λ (z : History). length z.made) moved ∙ ap (λ (r : List Move). length (r ++ m ∷ [])) made in
     omega (arith, size, length-append c.made (m ∷ []), less)
 
-pub few_less : (c e : Course) → e ≡ without_last c → length c.made ≤ 5000 → length e.made ≤ 5000
+pub few_less : (c e : History) → e ≡ without_last c → length c.made ≤ 5000 → length e.made ≤ 5000
 few_less c e back few =
-    let size : length e.made ≡ length (take (length c.made - 1) c.made) = ap (λ (z : Course). length z.made) back in
+    let size : length e.made ≡ length (take (length c.made - 1) c.made) = ap (λ (z : History). length z.made) back in
     let part = taken_size c.made (length c.made - 1) in
     omega (arith, size, part, few)
 

@@ -6,7 +6,7 @@ use Rattle.std.specs.Prelude.{Some}
 use Rattle.std.specs.List.{All}
 use Rattle.hive_model.specs.declared.pieces.GameType.{GameType}
 use Rattle.hive_model.specs.declared.places.Move.{Move}
-use Rattle.hive_model.specs.Courses.{Course}
+use Rattle.hive_model.specs.Histories.{History}
 use Rattle.hive_model.specs.Games.{replay}
 use Rattle.hive_model.specs.Positions.{opening}
 use Rattle.root_share.specs.Answer.{IsGameOf, root_of}
@@ -18,7 +18,7 @@ pub length-pushed : {A : Type 0} (xs ys : List A) (x : A) → ys ≡ xs ++ x ∷
 length-pushed xs ys x e n long = let more = length-append xs (x ∷ []) in rw e (omega (arith, more, long))
 
 -- workers that have games of this type and these moves are at the root that these lead to
-pub root-is : {A : Type 0} (t : GameType) (ms : List Move) (room : ℕ) (ws : List A) (game : A → Course) → 1 ≤ length ws → All (λ w. IsGameOf t ms room (game w)) ws
+pub root-is : {A : Type 0} (t : GameType) (ms : List Move) (room : ℕ) (ws : List A) (game : A → History) → 1 ≤ length ws → All (λ w. IsGameOf t ms room (game w)) ws
     → root_of (map game ws) ≡ replay (opening t) ms
 root-is t ms room [] game some all = absurd (omega (arith, some))
 root-is t ms room (w ∷ ws) game some all =

@@ -9,7 +9,7 @@ use Rattle.hive_model.specs.Positions.{Position, opening}
 use Rattle.hive_model.specs.Legal.{moves, is_over_state}
 use Rattle.hive_model.specs.Minimax.{best}
 use Rattle.hive_model.specs.Games.{replay}
-use Rattle.hive_model.specs.Courses.{is_listed}
+use Rattle.hive_model.specs.Histories.{is_listed}
 use Rattle.hive_model.specs.Texts.{piece_text}
 use Rattle.hive_model.specs.Denotes.{text}
 use Rattle.hive_model.specs.Repetition.{outcome_under}

@@ -23,7 +23,7 @@ ghost use Rattle.std.specs.Prelude.{
 ghost use Rattle.hive_model.specs.Lists.{IsOn};
 ghost use Rattle.hive_model.specs.Legal.{moves, is_over};
 ghost use Rattle.hive_model.specs.Games.{IsGame};
-ghost use Rattle.hive_model.specs.Courses.{is_listed};
+ghost use Rattle.hive_model.specs.Histories.{is_listed};
 ghost use Rattle.hive_model.specs.Minimax.{best};
 ghost use Rattle.hive_model.specs.Repetition.{outcome_under};
 ghost use Rattle.hive_model.specs.Denotes.{text};
@@ -78,20 +78,20 @@ impl<G: Game> Model for Current<G> {
     ghost Value = { CurrentGame };
 
     ghost view = { λ c. record {
-      game_type = (G.course c.game).game_type;
-      made = (G.course c.game).made;
+      game_type = (G.history c.game).game_type;
+      made = (G.history c.game).made;
       repetition = c.seen.repetition;
     } };
 
-    ghost invariant = { λ c. (c.written ≡ texts (opening (G.course c.game).game_type)
-        (G.course c.game).made) × (length (G.course c.game).made ≤ 5000)
-        × Sees c.seen (G.course c.game) };
+    ghost invariant = { λ c. (c.written ≡ texts (opening (G.history c.game).game_type)
+        (G.history c.game).made) × (length (G.history c.game).made ≤ 5000)
+        × Sees c.seen (G.history c.game) };
 }
 
 /// This number of first moves of the game.
 fn first_moves<G: Game>(alloc: Global, game: &G, count: u32) -> Result<MoveList, AllocError>
-    requires { count ≤ length (G.course game.now).made }
-    ensures { IfOk result (λ ms. ms ≡ take count (G.course game.now).made) }
+    requires { count ≤ length (G.history game.now).made }
+    ensures { IfOk result (λ ms. ms ≡ take count (G.history game.now).made) }
 {
     let mut moves = MoveList::new(alloc);
     for i in 0..count {
@@ -151,7 +151,7 @@ impl<G: Game + Drop> Current<G> {
         requires { length words.now ≤ greatest_line }
         ensures { result ≡ move_of self.now.game_type (reached self.now).board words.now }
     {
-        self.game.is_sound();
+        self.game.lemma_sound();
         read_move(self.game.game_type(), &self.game, words)
     }
 
@@ -172,7 +172,7 @@ impl<G: Game + Drop> Current<G> {
         ensures refused { OnErr result (self.new ≡ self.old) }
     {
         self.game.reserve(1)?;
-        self.game.is_sound();
+        self.game.lemma_sound();
         self.written.push(&self.game, m.again())?;
         self.game.play(m);
         if let Err(error) = self.seen.note(&self.game) {
@@ -199,7 +199,7 @@ impl<G: Game + Drop> Current<G> {
         ensures { IfOk result (λ c. c ≡ with_moves self.now
             (take (length self.now.made - plies) self.now.made)) }
     {
-        self.game.is_sound();
+        self.game.lemma_sound();
         let left = self.game.plies() - plies;
         let moves = first_moves(alloc, &self.game, left)?;
         let repetition = self.seen.repetition;
@@ -262,7 +262,7 @@ impl<G: Game + Drop> Current<G> {
     {
         let mut stack = MoveStack::new(alloc, 1)?;
         self.list(&mut stack);
-        self.game.is_sound();
+        self.game.lemma_sound();
         close(joined_moves(alloc, &self.game, &stack)?)
     }
 
@@ -341,7 +341,7 @@ impl<G: Game + Drop> Current<G> {
         ensures { IfOk result (λ r. text_of r
             ≡ Some (ended (text (reached self.now).board m ∷ (codes "ok" ∷ [])))) }
     {
-        self.game.is_sound();
+        self.game.lemma_sound();
         let written = write_move(&self.game, m);
         say(alloc, written.as_bytes())
     }
@@ -377,7 +377,7 @@ impl<G: Game + Send + Drop> Current<G> {
             ≡ Some (ended (best_text self.now depth ∷ (codes "ok" ∷ [])))) }
         ensures kept { IfSome kept.new (λ ns. AreSearchersOf team.workers ns.items) }
     {
-        self.game.is_sound();
+        self.game.lemma_sound();
         let moves = first_moves(alloc, &self.game, self.game.plies())?;
         let game_type = self.game.game_type();
         let made = moves.items();

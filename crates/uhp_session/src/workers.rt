@@ -68,7 +68,7 @@ fn workers_with<G: Game + Drop>(
     requires prepared { All (λ n. n ≡ 64) searchers.old.items }
     ensures count { IfOk result (λ ws. length ws.items ≡ length searchers.old.items) }
     ensures games { IfOk result (λ ws. All (λ w. IsGameOf game_type moves.now depth
-        (G.course w.game)) ws.items) }
+        (G.history w.game)) ws.items) }
     ensures prepared { IfOk result (λ ws. All (λ w. w.searcher ≡ 64) ws.items) }
     ensures none { OnOk result (searchers.new.items ≡ []) }
 {

@@ -5,7 +5,7 @@ ghost use Rattle.hive_model.specs.Pieces.{other_side, queen_of};
 ghost use Rattle.hive_model.specs.Places.{IsWithin, IsOnTheMap};
 ghost use Rattle.hive_model.specs.Boards.{IsBoard, spot_of, top_at};
 ghost use Rattle.hive_model.specs.Minimax.{value};
-ghost use Rattle.hive_model.specs.Courses.{position};
+ghost use Rattle.hive_model.specs.Histories.{position};
 ghost use Rattle.win_bounds.specs.FarFromWin.{
   is_hole,
   has_hole,
@@ -112,8 +112,8 @@ pub(crate) fn is_home_on<B: Board>(board: &B, side: Colour) -> bool
 /// occupied. If the test holds, the side to move cannot win with its next move. If no such piece is
 /// beside her, the test looks up the queen's spot and at most six places.
 pub fn is_far_from_win<G: Game>(game: &G) -> bool
-    ensures far { result ≡ is_far_from_win (position (G.course game.now)) }
-    ensures worth { IsTrue result → value (position (G.course game.now)) 1 ≤ℤ pos 1000 }
+    ensures far { result ≡ is_far_from_win (position (G.history game.now)) }
+    ensures worth { IsTrue result → value (position (G.history game.now)) 1 ≤ℤ pos 1000 }
 {
     is_far_on(game, game.side())
 }
@@ -123,8 +123,8 @@ pub fn is_far_from_win<G: Game>(game: &G) -> bool
 /// beside it. If the test holds, the side to move cannot lose with its next move. The test looks up
 /// as many places as `is_far_from_win` does.
 pub fn is_far_from_loss<G: Game>(game: &G) -> bool
-    ensures far { result ≡ is_far_from_loss (position (G.course game.now)) }
-    ensures worth { IsTrue result → neg_ℤ (pos 1000) ≤ℤ value (position (G.course game.now)) 1 }
+    ensures far { result ≡ is_far_from_loss (position (G.history game.now)) }
+    ensures worth { IsTrue result → neg_ℤ (pos 1000) ≤ℤ value (position (G.history game.now)) 1 }
 {
     is_home_on(game, game.side())
 }

@@ -2,7 +2,7 @@
 use Rattle.std.proofs.Common.{◌≡◌, ℕ, false, List, map, refl, sym, ap, subst, ◌∙◌}
 use Rattle.std.specs.Prelude.{Result}
 use Rattle.io_edge.specs.Outside.{Aside}
-use Rattle.hive_model.specs.Courses.{Course, position}
+use Rattle.hive_model.specs.Histories.{History, position}
 use Rattle.hive_model.specs.Legal.{is_over}
 use Rattle.io_edge.specs.Lines.{Line}
 use Rattle.hive_model.specs.Games.{replay}
@@ -28,7 +28,7 @@ judges-as head most worth other result reader source later same h = record {
 }
 
 -- the answer of a head, as one about the game under way
-pub claim-lines : (head : Head) (c : Course) → c.game_type ≡ head.game.game_type → c.made ≡ head.game.moves → is_over (position c) ≡ false → (left : List Line) → of_items (position c) head.plies head.answer (map index_in left) ≡ of_claim head left
+pub claim-lines : (head : Head) (c : History) → c.game_type ≡ head.game.game_type → c.made ≡ head.game.moves → is_over (position c) ≡ false → (left : List Line) → of_items (position c) head.plies head.answer (map index_in left) ≡ of_claim head left
 claim-lines head c kind made goes left =
     let there : position c ≡ last_position head.game = λ i. replay (opening (kind i)) (made i) in
     let open_ : is_over (last_position head.game) ≡ false = sym (ap is_over there) ∙ goes in

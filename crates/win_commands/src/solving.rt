@@ -2,7 +2,7 @@
 
 ghost use Rattle.std.specs.Prelude.{◌≡◌, ◌≤◌, ◌++◌, false};
 ghost use Rattle.io_edge.specs.Outside.{HasCause};
-ghost use Rattle.hive_model.specs.Courses.{position};
+ghost use Rattle.hive_model.specs.Histories.{position};
 ghost use Rattle.command_runs.specs.Answered.{WritesAnswer};
 ghost use Rattle.command_runs.specs.Runs.{RunsAs, side_of};
 ghost use Rattle.certificate_indices.specs.Writing.{Wrote};
@@ -29,9 +29,9 @@ fn write_solution<K: Sink, G: Game>(
     output: &mut K,
 ) -> bool
     requires prepared { plies ≤ solver.old }
-    requires spare { plies ≤ (G.course game.old).spare }
+    requires spare { plies ≤ (G.history game.old).spare }
     ensures wrote { Wrote result
-        (head.now ++ solution_lines (position (G.course game.old)) plies)
+        (head.now ++ solution_lines (position (G.history game.old)) plies)
         (K.written output.old) (K.written output.new) }
     ensures cause { HasCause (result ≡ false)
         (K.write_faults output.old) (K.write_faults output.new) }
@@ -51,8 +51,9 @@ fn tell_solution<K: Sink, G: Game + Drop>(
 ) -> Status
     requires some { 1 ≤ plies }
     requires few { plies ≤ 16 }
-    requires spare { plies ≤ (G.course game).spare }
-    ensures told { WritesAnswer (solution_text (G.course game).game_type (G.course game).made plies)
+    requires spare { plies ≤ (G.history game).spare }
+    ensures told { WritesAnswer (solution_text (G.history game).game_type
+        (G.history game).made plies)
         result (K.written output.old) (K.written output.new) }
     ensures cause { HasCause (result ≡ Status.WriteFault)
         (K.write_faults output.old) (K.write_faults output.new) }

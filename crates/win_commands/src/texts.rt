@@ -29,7 +29,7 @@ pub(crate) fn head_of<G: Game + Drop>(
     answer: bool,
 ) -> Result<ReplyText, AllocError>
     ensures { IfOk result (λ t. t
-        ≡ head_text (G.course game.now).game_type (G.course game.now).made plies answer) }
+        ≡ head_text (G.history game.now).game_type (G.history game.now).made plies answer) }
 {
     let mut text = ReplyText::new(alloc);
     push_line(&mut text, b"hive-solution ", b"1")?;

@@ -2,7 +2,7 @@
 
 ghost use Rattle.std.specs.Prelude.{◌≤◌, map};
 ghost use Rattle.hive_model.specs.Minimax.{IsInner};
-ghost use Rattle.hive_model.specs.Courses.{position};
+ghost use Rattle.hive_model.specs.Histories.{position};
 ghost use Rattle.certificate_text.specs.Text.{index_in};
 ghost use Rattle.command_runs.specs.Runs.{RunsAs, side_of};
 ghost use Rattle.certificate_verdicts.specs.Judging.{JudgesAhead};
@@ -33,11 +33,11 @@ fn judge_indices<S: Source, G: Game>(
     stack: &mut MoveStack,
 ) -> Result<TextVerdict, Unread>
     requires few { plies ≤ 16 }
-    requires inner { IsInner (position (G.course game.old)) plies }
-    requires spare { plies ≤ (G.course game.old).spare }
+    requires inner { IsInner (position (G.history game.old)) plies }
+    requires spare { plies ≤ (G.history game.old).spare }
     requires room { plies ≤ stack.old.free }
     ensures { JudgesAhead 4
-        (λ left. of_items (position (G.course game.old)) plies answer (map index_in left))
+        (λ left. of_items (position (G.history game.old)) plies answer (map index_in left))
         4 result reader.old
         (side_of S.rest S.read_faults input.old) (side_of S.rest S.read_faults input.new) }
 {

@@ -9,9 +9,9 @@ use Rattle.hive_model.specs.Positions.{Position, IsSound}
 use Rattle.hive_model.specs.Legal.{moves}
 use Rattle.hive_model.specs.Minimax.{IsInner, value, reply_value}
 use Rattle.hive_model.specs.Games.{after}
-use Rattle.hive_model.specs.Courses.{Course, position, with_move}
+use Rattle.hive_model.specs.Histories.{History, position, with_move}
 use Rattle.hive_model.proofs.RuleLaws.{any_has, has_any}
-use Rattle.search_laws.proofs.CourseLaws.{position-with_move}
+use Rattle.search_laws.proofs.HistoryLaws.{position-with_move}
 use Rattle.search_laws.proofs.LoopLaws.{on-at, drop-at}
 use Rattle.search_laws.proofs.BestLaws.{greatest-met}
 use Rattle.search_laws.proofs.HintLaws.{reply-low}
@@ -71,10 +71,10 @@ under-is n k v one less = grind (arith, ints)
 
 -- ---- from what the calls ensure
 
-pub reply-is : (start now : Course) (d : ℕ) (n : ℤ) (m : Move) (r : Bool) → now ≡ start → r ≡ int_le n (reply_value (position now) d m) → r ≡ reply_reaches (position start) d n m
-reply-is start now d n m r same is = is ∙ ap (λ (h : Course). int_le n (reply_value (position h) d m)) same
+pub reply-is : (start now : History) (d : ℕ) (n : ℤ) (m : Move) (r : Bool) → now ≡ start → r ≡ int_le n (reply_value (position now) d m) → r ≡ reply_reaches (position start) d n m
+reply-is start now d n m r same is = is ∙ ap (λ (h : History). int_le n (reply_value (position h) d m)) same
 
-pub child-reaches : (start played : Course) (m : Move) (d : ℕ) (n k : ℤ) (r : Bool) → played ≡ with_move start m → k ≡ pos 1 -ℤ n → r ≡ int_le k (value (position played) d) →
+pub child-reaches : (start played : History) (m : Move) (d : ℕ) (n k : ℤ) (r : Bool) → played ≡ with_move start m → k ≡ pos 1 -ℤ n → r ≡ int_le k (value (position played) d) →
     not r ≡ int_le n (reply_value (position start) d m)
 child-reaches start played m d n k r moved one is =
     let there : position played ≡ after (position start) m = ap position moved ∙ position-with_move start m in

@@ -17,7 +17,7 @@ ghost use Rattle.hive_model.specs.Keys.{key as key_of_position};
 ghost use Rattle.hive_model.specs.Positions.{Position, IsSound};
 ghost use Rattle.hive_model.specs.Minimax.{value, IsInner};
 ghost use Rattle.hive_model.specs.Evaluation.{eval};
-ghost use Rattle.hive_model.specs.Courses.{position};
+ghost use Rattle.hive_model.specs.Histories.{position};
 ghost use Rattle.value_table.specs.Truth.{stands};
 
 use hive_model::{Game, Key, Move};
@@ -32,10 +32,10 @@ pub(crate) const GREATEST_EVALUATION: i32 = 1_000;
 /// evaluated only if its state alone does not decide. The game is as before.
 pub(crate) fn leaf_reaches<G: Game>(game: &mut G, depth: u32, least: i32) -> Option<bool>
     requires deep { depth ≤ 64 }
-    ensures leaf { MatchOption result (IsInner (position (G.course game.old)) depth)
-        (λ b. b ≡ int_le least (value (position (G.course game.old)) depth)) }
-    ensures sound { IsSound (position (G.course game.old)) }
-    ensures game { G.course game.new ≡ G.course game.old }
+    ensures leaf { MatchOption result (IsInner (position (G.history game.old)) depth)
+        (λ b. b ≡ int_le least (value (position (G.history game.old)) depth)) }
+    ensures sound { IsSound (position (G.history game.old)) }
+    ensures game { G.history game.new ≡ G.history game.old }
 {
     if let Some(worth) = end_value(game.state(), game.side(), depth) {
         return Some(least <= worth);
@@ -48,8 +48,8 @@ pub(crate) fn leaf_reaches<G: Game>(game: &mut G, depth: u32, least: i32) -> Opt
 
 /// Whether the evaluation of a position is at least `least`.
 fn evaluation_reaches<G: Game>(game: &mut G, least: i32) -> bool
-    ensures reached { result ≡ int_le least (eval (position (G.course game.old))) }
-    ensures game { G.course game.new ≡ G.course game.old }
+    ensures reached { result ≡ int_le least (eval (position (G.history game.old))) }
+    ensures game { G.history game.new ≡ G.history game.old }
 {
     if least > GREATEST_EVALUATION {
         return false;

@@ -2,7 +2,7 @@
 
 ghost use Rattle.std.specs.Prelude.{◌≡◌, int_le, is_some, IsSome, IsTrue};
 ghost use Rattle.hive_model.specs.Minimax.{IsInner, value, reply_value};
-ghost use Rattle.hive_model.specs.Courses.{position};
+ghost use Rattle.hive_model.specs.Histories.{position};
 ghost use Rattle.search_laws.specs.Nodes.{HasRoom, IsNode, CanReply, AreAsBefore};
 ghost use Rattle.win_solver.specs.Asked.{CanBeAsked};
 
@@ -27,9 +27,9 @@ pub(crate) struct Workspace {
 #[cycle(reaches)]
 pub(crate) fn reaches<G: Game>(game: &mut G, depth: u32, least: i32, space: &mut Workspace) -> bool
     requires asked { CanBeAsked least }
-    requires room { HasRoom depth (G.course game.old) space.old.stack }
-    ensures reached { result ≡ int_le least (value (position (G.course game.old)) depth) }
-    ensures before { AreAsBefore (G.course game.old) (G.course game.new)
+    requires room { HasRoom depth (G.history game.old) space.old.stack }
+    ensures reached { result ≡ int_le least (value (position (G.history game.old)) depth) }
+    ensures before { AreAsBefore (G.history game.old) (G.history game.new)
         space.old.stack space.new.stack }
 {
     if let Some(known) = leaf_reaches(game, depth, least) {
@@ -54,10 +54,10 @@ pub(crate) fn reaches<G: Game>(game: &mut G, depth: u32, least: i32, space: &mut
 #[cycle(reaches)]
 fn reaches_at_once<G: Game>(game: &mut G, least: i32, space: &mut Workspace) -> bool
     requires asked { CanBeAsked least }
-    requires inner { IsInner (position (G.course game.old)) 1 }
-    requires room { HasRoom 1 (G.course game.old) space.old.stack }
-    ensures reached { result ≡ int_le least (value (position (G.course game.old)) 1) }
-    ensures before { AreAsBefore (G.course game.old) (G.course game.new)
+    requires inner { IsInner (position (G.history game.old)) 1 }
+    requires room { HasRoom 1 (G.history game.old) space.old.stack }
+    ensures reached { result ≡ int_le least (value (position (G.history game.old)) 1) }
+    ensures before { AreAsBefore (G.history game.old) (G.history game.new)
         space.old.stack space.new.stack }
 {
     if least > GREATEST_EVALUATION && is_far_from_win(game) {
@@ -80,10 +80,10 @@ fn find_reply<G: Game>(
     space: &mut Workspace,
 ) -> Option<Move>
     requires asked { CanBeAsked least }
-    requires inner { IsInner (position (G.course game.old)) depth }
-    requires room { HasRoom depth (G.course game.old) space.old.stack }
-    ensures found { is_some result ≡ int_le least (value (position (G.course game.old)) depth) }
-    ensures before { AreAsBefore (G.course game.old) (G.course game.new)
+    requires inner { IsInner (position (G.history game.old)) depth }
+    requires room { HasRoom depth (G.history game.old) space.old.stack }
+    ensures found { is_some result ≡ int_le least (value (position (G.history game.old)) depth) }
+    ensures before { AreAsBefore (G.history game.old) (G.history game.new)
         space.old.stack space.new.stack }
 {
     let level = space.stack.levels();
@@ -104,9 +104,9 @@ fn first_reply<G: Game>(
     space: &mut Workspace,
 ) -> Option<Move>
     requires asked { CanBeAsked least }
-    requires node { IsNode depth level (G.course game.old) space.old.stack }
-    ensures found { is_some result ≡ int_le least (value (position (G.course game.old)) depth) }
-    ensures before { AreAsBefore (G.course game.old) (G.course game.new)
+    requires node { IsNode depth level (G.history game.old) space.old.stack }
+    ensures found { is_some result ≡ int_le least (value (position (G.history game.old)) depth) }
+    ensures before { AreAsBefore (G.history game.old) (G.history game.new)
         space.old.stack space.new.stack }
 {
     let hinted = hinted_reply(game, level, depth, least, hint, space);
@@ -138,10 +138,10 @@ fn hinted_reply<G: Game>(
     space: &mut Workspace,
 ) -> Option<Move>
     requires asked { CanBeAsked least }
-    requires node { IsNode depth level (G.course game.old) space.old.stack }
+    requires node { IsNode depth level (G.history game.old) space.old.stack }
     ensures found { IsSome result
-        → IsTrue (int_le least (value (position (G.course game.old)) depth)) }
-    ensures before { AreAsBefore (G.course game.old) (G.course game.new)
+        → IsTrue (int_le least (value (position (G.history game.old)) depth)) }
+    ensures before { AreAsBefore (G.history game.old) (G.history game.new)
         space.old.stack space.new.stack }
 {
     let place = first_choice(hint, game, &space.table, &space.stack, level)?;
@@ -166,10 +166,10 @@ fn reply_reaches<G: Game>(
     space: &mut Workspace,
 ) -> bool
     requires asked { CanBeAsked least }
-    requires can { CanReply m depth (G.course game.old) space.old.stack }
+    requires can { CanReply m depth (G.history game.old) space.old.stack }
     ensures reached { result
-        ≡ int_le least (reply_value (position (G.course game.old)) depth m) }
-    ensures before { AreAsBefore (G.course game.old) (G.course game.new)
+        ≡ int_le least (reply_value (position (G.history game.old)) depth m) }
+    ensures before { AreAsBefore (G.history game.old) (G.history game.new)
         space.old.stack space.new.stack }
 {
     game.play(m);
@@ -182,9 +182,9 @@ fn reply_reaches<G: Game>(
 /// finds says which moves to try first.
 pub(crate) fn deepen<G: Game>(game: &mut G, depth: u32, least: i32, space: &mut Workspace) -> bool
     requires asked { CanBeAsked least }
-    requires room { HasRoom depth (G.course game.old) space.old.stack }
-    ensures reached { result ≡ int_le least (value (position (G.course game.old)) depth) }
-    ensures before { AreAsBefore (G.course game.old) (G.course game.new)
+    requires room { HasRoom depth (G.history game.old) space.old.stack }
+    ensures reached { result ≡ int_le least (value (position (G.history game.old)) depth) }
+    ensures before { AreAsBefore (G.history game.old) (G.history game.new)
         space.old.stack space.new.stack }
 {
     for shallow in 1..depth {

@@ -2,7 +2,7 @@
 
 ghost use Rattle.std.specs.Prelude.{◌≡◌, ◌≤◌, IfOk, false};
 ghost use Rattle.io_edge.specs.Outside.{HasCause};
-ghost use Rattle.hive_model.specs.Courses.{position};
+ghost use Rattle.hive_model.specs.Histories.{position};
 ghost use Rattle.certificate_indices.specs.Writing.{Wrote, index_lines};
 ghost use Rattle.win_solver.specs.Force.{force};
 ghost use Rattle.win_solver.specs.Solution.{least_solution};
@@ -88,10 +88,10 @@ impl Solver {
     /// The game has room for that number of plies. Game and solver are as before.
     pub fn solve<G: Game>(&mut self, game: &mut G, plies: u32) -> bool
         requires prepared { plies ≤ self.old }
-        requires spare { plies ≤ (G.course game.old).spare }
+        requires spare { plies ≤ (G.history game.old).spare }
         ensures answer { result
-            ≡ force (position (G.course game.old)) plies (position (G.course game.old)).side }
-        ensures game { G.course game.new ≡ G.course game.old }
+            ≡ force (position (G.history game.old)) plies (position (G.history game.old)).side }
+        ensures game { G.history game.new ≡ G.history game.old }
         ensures solver { self.new ≡ self.old }
     {
         deepen(game, plies, 1_000_000, &mut self.teller.space)
@@ -107,15 +107,15 @@ impl Solver {
         sink: &mut K,
     ) -> bool
         requires prepared { plies ≤ self.old }
-        requires spare { plies ≤ (G.course game.old).spare }
+        requires spare { plies ≤ (G.history game.old).spare }
         ensures wrote { Wrote result
-            (index_lines (least_solution (position (G.course game.old)) plies
-            (position (G.course game.old)).side
-            (force (position (G.course game.old)) plies (position (G.course game.old)).side)))
+            (index_lines (least_solution (position (G.history game.old)) plies
+            (position (G.history game.old)).side
+            (force (position (G.history game.old)) plies (position (G.history game.old)).side)))
             (K.written sink.old) (K.written sink.new) }
         ensures cause { HasCause (result ≡ false)
             (K.write_faults sink.old) (K.write_faults sink.new) }
-        ensures game { G.course game.new ≡ G.course game.old }
+        ensures game { G.history game.new ≡ G.history game.old }
         ensures solver { self.new ≡ self.old }
     {
         let limit = answer_limit(self.solve(game, plies));

@@ -2,7 +2,7 @@
 //! position.
 
 ghost use Rattle.std.specs.Prelude.{◌≡◌, ◌≤◌};
-ghost use Rattle.hive_model.specs.Courses.{position};
+ghost use Rattle.hive_model.specs.Histories.{position};
 ghost use Rattle.hive_model.specs.Legal as rules;
 
 use crate::plain_search_tests::worth;
@@ -149,7 +149,7 @@ fn first_wrong(
 
 /// Whether the game is over.
 pub(crate) fn is_over(game: &PlainGame) -> bool
-    ensures { result ≡ rules.is_over (position game.now.course) }
+    ensures { result ≡ rules.is_over (position game.now.history) }
 {
     match game.state() {
         State::NotStarted | State::InProgress => false,

@@ -2,7 +2,7 @@
 
 ghost use Rattle.std.specs.Prelude.{◌≡◌, ◌≤◌, length, IfOk};
 ghost use Rattle.std.specs.List.{All};
-ghost use Rattle.hive_model.specs.Courses.{position};
+ghost use Rattle.hive_model.specs.Histories.{position};
 ghost use Rattle.hive_model.specs.Games.{IsGame};
 ghost use Rattle.hive_model.specs.Legal as rules;
 ghost use Rattle.root_share.specs.Answer.{IsGameOf};
@@ -118,7 +118,7 @@ fn workers_in(
     requires few { depth ≤ 3 }
     ensures count { IfOk result (λ ws. length ws.items ≡ count) }
     ensures games { IfOk result (λ ws. All
-        (λ w. IsGameOf parsed.now.game_type parsed.now.moves depth w.game.course)
+        (λ w. IsGameOf parsed.now.game_type parsed.now.moves depth w.game.history)
         ws.items) }
     ensures searchers { IfOk result (λ ws. All (λ w. depth ≤ w.searcher) ws.items) }
 {
@@ -133,7 +133,7 @@ fn workers_in(
 
 /// Whether the game is over.
 fn is_over(game: &PlainGame) -> bool
-    ensures { result ≡ rules.is_over (position game.now.course) }
+    ensures { result ≡ rules.is_over (position game.now.history) }
 {
     match game.state() {
         State::NotStarted | State::InProgress => false,

@@ -1,7 +1,7 @@
 //! Words and how they ask to treat engines: the longest wait for an answer, and whether standard
 //! error is thrown away.
 use super::words_of;
-use command_words::{Care, care_of};
+use command_words::{EngineLimits, care_of};
 use std::alloc::{AllocError, Global};
 use std::test::Fail;
 
@@ -84,7 +84,7 @@ const ROWS: [Row; 13] = [
 /// Whether the words ask for exactly this treatment.
 fn ask_for_care(alloc: Global, row: &Row) -> Result<bool, AllocError> {
     let words = words_of(alloc, row.words, '|')?;
-    let care = Care {
+    let care = EngineLimits {
         limit: row.limit,
         quiet: row.quiet,
     };

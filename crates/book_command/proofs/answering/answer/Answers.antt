@@ -1,5 +1,5 @@
 use Rattle.std.proofs.Common.{[], subst, sym}
-use Rattle.hive_model.specs.Courses.{position}
+use Rattle.hive_model.specs.Histories.{position}
 use Rattle.opening_book.specs.Book.{IsTally}
 use Rattle.command_runs.specs.Asking.{IsReplayOf}
 use Rattle.book_command.proofs.RunLaws.{is_answer, no_line}
@@ -17,7 +17,7 @@ returns-in-Err-clause-none g c =
 pub tally_of-requires : goal.tally_of-requires
 tally_of-requires g c =
     let (bytes, taken, gives) = c.in-Ok-first_game.ensures.given in
-    not_over (g.G.Game.course c.in-Ok-first_game.game) gives
+    not_over (g.G.Game.history c.in-Ok-first_game.game) gives
 
 pub returns-in_default-tally_of-clause-none : goal.returns-in_default-tally_of-clause-none
 returns-in_default-tally_of-clause-none g c = λ input told.
@@ -39,7 +39,7 @@ returns-in-Ok-book_line-clause-line g c = λ input told.
     let (games, counted, whole) = c.in-Ok-count_games.ensures.games in
     let again = subst (λ k. IsReplayOf k start) (sym c.in-Ok-tally_of.ensures.game) replay_of in
     let tallied = counted _ [] (subst (λ k. IsTally (position k) [] c.in-Ok-tally_of.tally) (sym c.in-Ok-tally_of.ensures.game) c.in-Ok-tally_of.ensures.tally) in
-    is_answer input _ start games (g.G.Game.course c.tally_of.new.game) c.in-Ok-book_line.line again (whole input start first) (c.in-Ok-book_line.ensures games tallied)
+    is_answer input _ start games (g.G.Game.history c.tally_of.new.game) c.in-Ok-book_line.line again (whole input start first) (c.in-Ok-book_line.ensures games tallied)
 
 pub returns-in-Ok-count_games-clause-none : goal.returns-in-Ok-count_games-clause-none
 returns-in-Ok-count_games-clause-none g c = λ input told.

@@ -8,7 +8,7 @@ games-init g c = record { counting = none_counted _ _ _ c.requires; reads = refl
 pub games-preserved : goal.games-preserved
 games-preserved g c =
     let (bytes, taken, (line, is)) = rw c.in-Ok-Some.field-0-is at c.in-Ok-Some.ensures.given in record {
-      counting = one_counted (g.G.Game.course c.in-Ok-Some.game) c.games.invariant.counting taken is c.add.ensures.added c.add.ensures.plies;
+      counting = one_counted (g.G.Game.history c.in-Ok-Some.game) c.games.invariant.counting taken is c.add.ensures.added c.add.ensures.plies;
       reads = c.in-Ok-Some.ensures.cause.same (λ e. cc) ∙ c.games.invariant.reads;
     }
 

@@ -6,7 +6,7 @@ returns-in-Ok-clause-given g c =
     let (bytes, takes, gives) = c.in-Line.ensures.fed in (
       bytes,
       record { takes = takes; within = c.in-Line.ensures.counts.bound; little = c.in-Line.ensures.little },
-      game_given (g.G.Game.course c.in-Ok.game) c.line.result.now c.next_line.new.self.last c.line.ensures gives c.in-Ok.ensures.game,
+      game_given (g.G.Game.history c.in-Ok.game) c.line.result.now c.next_line.new.self.last c.line.ensures gives c.in-Ok.ensures.game,
     )
 
 pub returns-in-Err-clause-given : goal.returns-in-Err-clause-given

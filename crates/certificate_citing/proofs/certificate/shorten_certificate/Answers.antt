@@ -1,5 +1,5 @@
 use Rattle.std.proofs.Common.{ℕ, subst, rules, [], ◌≡◌, Some, refl, ap, ◌∙◌}
-use Rattle.hive_model.specs.Courses.{position}
+use Rattle.hive_model.specs.Histories.{position}
 use Rattle.certificate_walks.specs.Ends.{EndsItems}
 use Rattle.certificate_walks.proofs.EndLaws.{checks-items, ends-unread}
 use Rattle.strategy_check.specs.Checks.{index_faults}
@@ -32,7 +32,7 @@ returns-clause-items g c =
     let ends : EndsItems index_faults walked after.draft.now.taken c.answer_of.result (supply after.indices.now) (supply c.answer_of.new.items) =
     subst (λ (n : ℕ). EndsItems index_faults walked n c.answer_of.result (supply after.indices.now) (supply c.answer_of.new.items)) (search rules)
     (subst (λ x. EndsItems index_faults walked c.draft-1.given.0.taken c.answer_of.result (supply x) (supply c.answer_of.new.items)) (search rules) c.answer_of.ensures.items) in
-    checks-items supply index_faults (shortened (position (g.G.Game.course c.args.game.now)) claim.depth claim.best claim.value) walked c.answer_of.result c.args.indices.now begun.indices.now after.indices.now c.answer_of.new.items _ _ begun.draft.now.taken after.draft.now.taken
+    checks-items supply index_faults (shortened (position (g.G.Game.history c.args.game.now)) claim.depth claim.best claim.value) walked c.answer_of.result c.args.indices.now begun.indices.now after.indices.now c.answer_of.new.items _ _ begun.draft.now.taken after.draft.now.taken
     c.new-walker.ensures.same_indices (ap (λ (d : Draft). d.taken) (c.new-walker.ensures.same_draft ∙ c.requires.empty)) part ends (λ items e counts.
     let start = short_steps (steps items 0) [] [] in
     let t = c.in-Some.ensures.told start
@@ -51,7 +51,7 @@ returns-clause-unread g c =
     let ends : EndsItems index_faults walked after.draft.now.taken c.answer_of.result (supply after.indices.now) (supply c.answer_of.new.items) =
     subst (λ (n : ℕ). EndsItems index_faults walked n c.answer_of.result (supply after.indices.now) (supply c.answer_of.new.items)) (search rules)
     (subst (λ x. EndsItems index_faults walked c.draft-1.given.0.taken c.answer_of.result (supply x) (supply c.answer_of.new.items)) (search rules) c.answer_of.ensures.items) in
-    ends-unread supply index_faults (shortened (position (g.G.Game.course c.args.game.now)) claim.depth claim.best claim.value) walked c.answer_of.result c.args.indices.now begun.indices.now after.indices.now c.answer_of.new.items _ _ begun.draft.now.taken after.draft.now.taken
+    ends-unread supply index_faults (shortened (position (g.G.Game.history c.args.game.now)) claim.depth claim.best claim.value) walked c.answer_of.result c.args.indices.now begun.indices.now after.indices.now c.answer_of.new.items _ _ begun.draft.now.taken after.draft.now.taken
     c.new-walker.ensures.same_indices (ap (λ (d : Draft). d.taken) (c.new-walker.ensures.same_draft ∙ c.requires.empty)) part (λ items e counts.
     let start = short_steps (steps items 0) [] [] in
     let t = c.in-Some.ensures.told start

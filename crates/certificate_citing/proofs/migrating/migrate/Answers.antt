@@ -1,5 +1,5 @@
 use Rattle.std.proofs.Common.{true, false, ap, sym, subst, Some}
-use Rattle.hive_model.specs.Courses.{position}
+use Rattle.hive_model.specs.Histories.{position}
 use Rattle.certificate_walks.specs.declared.walk_answers.Checked.{Checked}
 use Rattle.certificate_walks.specs.declared.walk_answers.Checked.TheVariants.{Accepted, Refused, Halted}
 use Rattle.strategy_check.specs.declared.why.Why.{Why}
@@ -26,7 +26,7 @@ returns-in-Accepted-clause-told g c =
 
 pub returns-in-Refused-clause-told : goal.returns-in-Refused-clause-told
 returns-in-Refused-clause-told g c =
-    let p = position (g.G.Game.course c.args.game.now) in
+    let p = position (g.G.Game.history c.args.game.now) in
     let d = c.args.claim.now.depth in
     let m = c.args.claim.now.best in
     let v = c.args.claim.now.value in
@@ -38,7 +38,7 @@ returns-in-Refused-clause-told g c =
 
 pub returns-clause-told : goal.returns-clause-told
 returns-clause-told g c =
-    let p = position (g.G.Game.course c.args.game.now) in
+    let p = position (g.G.Game.history c.args.game.now) in
     let d = c.args.claim.now.depth in
     let m = c.args.claim.now.best in
     let v = c.args.claim.now.value in
@@ -50,32 +50,32 @@ returns-clause-told g c =
 
 pub returns-then-write_both-clause-items : goal.returns-then-write_both-clause-items
 returns-then-write_both-clause-items g c =
-    items-are (position (g.G.Game.course c.args.game.now)) c.args.claim.now.depth c.args.claim.now.best c.args.claim.now.value (Some c.in-Some.checked) (Some Accepted) _ _ (ap (λ x. Some x) (sym c.in-Accepted.is)) c.in-Some.ensures.items
+    items-are (position (g.G.Game.history c.args.game.now)) c.args.claim.now.depth c.args.claim.now.best c.args.claim.now.value (Some c.in-Some.checked) (Some Accepted) _ _ (ap (λ x. Some x) (sym c.in-Accepted.is)) c.in-Some.ensures.items
 
 pub returns-in-Accepted-clause-items : goal.returns-in-Accepted-clause-items
 returns-in-Accepted-clause-items g c =
-    items-are (position (g.G.Game.course c.args.game.now)) c.args.claim.now.depth c.args.claim.now.best c.args.claim.now.value (Some c.in-Some.checked) (Some Accepted) _ _ (ap (λ x. Some x) (sym c.in-Accepted.is)) c.in-Some.ensures.items
+    items-are (position (g.G.Game.history c.args.game.now)) c.args.claim.now.depth c.args.claim.now.best c.args.claim.now.value (Some c.in-Some.checked) (Some Accepted) _ _ (ap (λ x. Some x) (sym c.in-Accepted.is)) c.in-Some.ensures.items
 
 pub returns-in-Refused-clause-items : goal.returns-in-Refused-clause-items
 returns-in-Refused-clause-items g c =
-    items-are (position (g.G.Game.course c.args.game.now)) c.args.claim.now.depth c.args.claim.now.best c.args.claim.now.value (Some c.in-Some.checked) (Some (Refused c.in-Refused.place c.in-Refused.why)) _ _ (ap (λ x. Some x) (sym c.in-Refused.is)) c.in-Some.ensures.items
+    items-are (position (g.G.Game.history c.args.game.now)) c.args.claim.now.depth c.args.claim.now.best c.args.claim.now.value (Some c.in-Some.checked) (Some (Refused c.in-Refused.place c.in-Refused.why)) _ _ (ap (λ x. Some x) (sym c.in-Refused.is)) c.in-Some.ensures.items
 
 pub returns-clause-items : goal.returns-clause-items
 returns-clause-items g c =
-    items-are (position (g.G.Game.course c.args.game.now)) c.args.claim.now.depth c.args.claim.now.best c.args.claim.now.value (Some c.in-Some.checked) (Some (Halted c.in-Halted.answer)) _ _ (ap (λ x. Some x) (sym c.in-Halted.is)) c.in-Some.ensures.items
+    items-are (position (g.G.Game.history c.args.game.now)) c.args.claim.now.depth c.args.claim.now.best c.args.claim.now.value (Some c.in-Some.checked) (Some (Halted c.in-Halted.answer)) _ _ (ap (λ x. Some x) (sym c.in-Halted.is)) c.in-Some.ensures.items
 
 pub returns-then-write_both-clause-unread : goal.returns-then-write_both-clause-unread
 returns-then-write_both-clause-unread g c =
-    unread-are (position (g.G.Game.course c.args.game.now)) c.args.claim.now.depth c.args.claim.now.best c.args.claim.now.value (Some c.in-Some.checked) (Some Accepted) (g.I.Items.supply c.args.indices.now) (g.I.Items.supply c.shorten_certificate.new.indices) (ap (λ x. Some x) (sym c.in-Accepted.is)) c.in-Some.ensures.unread
+    unread-are (position (g.G.Game.history c.args.game.now)) c.args.claim.now.depth c.args.claim.now.best c.args.claim.now.value (Some c.in-Some.checked) (Some Accepted) (g.I.Items.supply c.args.indices.now) (g.I.Items.supply c.shorten_certificate.new.indices) (ap (λ x. Some x) (sym c.in-Accepted.is)) c.in-Some.ensures.unread
 
 pub returns-in-Accepted-clause-unread : goal.returns-in-Accepted-clause-unread
 returns-in-Accepted-clause-unread g c =
-    unread-are (position (g.G.Game.course c.args.game.now)) c.args.claim.now.depth c.args.claim.now.best c.args.claim.now.value (Some c.in-Some.checked) (Some Accepted) (g.I.Items.supply c.args.indices.now) (g.I.Items.supply c.shorten_certificate.new.indices) (ap (λ x. Some x) (sym c.in-Accepted.is)) c.in-Some.ensures.unread
+    unread-are (position (g.G.Game.history c.args.game.now)) c.args.claim.now.depth c.args.claim.now.best c.args.claim.now.value (Some c.in-Some.checked) (Some Accepted) (g.I.Items.supply c.args.indices.now) (g.I.Items.supply c.shorten_certificate.new.indices) (ap (λ x. Some x) (sym c.in-Accepted.is)) c.in-Some.ensures.unread
 
 pub returns-in-Refused-clause-unread : goal.returns-in-Refused-clause-unread
 returns-in-Refused-clause-unread g c =
-    unread-are (position (g.G.Game.course c.args.game.now)) c.args.claim.now.depth c.args.claim.now.best c.args.claim.now.value (Some c.in-Some.checked) (Some (Refused c.in-Refused.place c.in-Refused.why)) (g.I.Items.supply c.args.indices.now) (g.I.Items.supply c.shorten_certificate.new.indices) (ap (λ x. Some x) (sym c.in-Refused.is)) c.in-Some.ensures.unread
+    unread-are (position (g.G.Game.history c.args.game.now)) c.args.claim.now.depth c.args.claim.now.best c.args.claim.now.value (Some c.in-Some.checked) (Some (Refused c.in-Refused.place c.in-Refused.why)) (g.I.Items.supply c.args.indices.now) (g.I.Items.supply c.shorten_certificate.new.indices) (ap (λ x. Some x) (sym c.in-Refused.is)) c.in-Some.ensures.unread
 
 pub returns-clause-unread : goal.returns-clause-unread
 returns-clause-unread g c =
-    unread-are (position (g.G.Game.course c.args.game.now)) c.args.claim.now.depth c.args.claim.now.best c.args.claim.now.value (Some c.in-Some.checked) (Some (Halted c.in-Halted.answer)) (g.I.Items.supply c.args.indices.now) (g.I.Items.supply c.shorten_certificate.new.indices) (ap (λ x. Some x) (sym c.in-Halted.is)) c.in-Some.ensures.unread
+    unread-are (position (g.G.Game.history c.args.game.now)) c.args.claim.now.depth c.args.claim.now.best c.args.claim.now.value (Some c.in-Some.checked) (Some (Halted c.in-Halted.answer)) (g.I.Items.supply c.args.indices.now) (g.I.Items.supply c.shorten_certificate.new.indices) (ap (λ x. Some x) (sym c.in-Halted.is)) c.in-Some.ensures.unread

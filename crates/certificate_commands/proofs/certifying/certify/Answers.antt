@@ -15,7 +15,7 @@ returns-in-Err g c = record {
 
 pub returns : goal.returns
 returns g c = record {
-  run = certified c.args.depth c.tell_certificate.result _ _ (g.G.Game.course c.in-Ok.game) c.requires.some c.in-Ok.ensures.under_way c.in-Ok.ensures.game c.tell_certificate.ensures.told;
+  run = certified c.args.depth c.tell_certificate.result _ _ (g.G.Game.history c.in-Ok.game) c.requires.some c.in-Ok.ensures.under_way c.in-Ok.ensures.game c.tell_certificate.ensures.told;
   reads = search rules;
   writes = search rules;
 }

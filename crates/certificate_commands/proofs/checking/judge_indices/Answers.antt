@@ -1,5 +1,5 @@
 use Rattle.std.proofs.Common.{ℕ, rules, ap, map, subst, sym}
-use Rattle.hive_model.specs.Courses.{position}
+use Rattle.hive_model.specs.Histories.{position}
 use Rattle.certificate_walks.specs.Answers.{CountsRefused, StopsUnread}
 use Rattle.strategy_check.specs.Trace.{checked}
 use Rattle.certificate_text.specs.Text.{index_in}
@@ -22,7 +22,7 @@ returns g c = record {
       let claim = c.args.claim.now in
       let items = map index_in left in
       let after = c.check-checked.new.indices in
-      let o = checked (position (g.G.Game.course c.args.game.now)) claim.depth claim.best claim.value items in
+      let o = checked (position (g.G.Game.history c.args.game.now)) claim.depth claim.best claim.value items in
       let stops : StopsUnread index_faults o c.check-checked.result c.lines-lines.result =
       subst (λ (n : ℕ). StopsUnread index_faults o c.check-checked.result n) (sym c.lines-lines.ensures) (c.check-checked.ensures.unread items (search rules) c.new-indices.ensures.none) in
       walk-ends (IsUndecided 5 (of_walk 5 o) text) text _ _ (g.S.Source.rest after.source.now) _ _ _ after.reader.now _ _ c.lines-lines.result c.new-indices.ensures.same_reader (ap g.S.Source.rest c.new-indices.ensures.same_source)

@@ -1,5 +1,5 @@
 use Rattle.std.proofs.Common.{ℕ, rules, ap, map, subst, sym}
-use Rattle.hive_model.specs.Courses.{position}
+use Rattle.hive_model.specs.Histories.{position}
 use Rattle.certificate_walks.specs.Answers.{CountsRefused, StopsUnread}
 use Rattle.strategy_lemmas.specs.Cited.{cited_checked}
 use Rattle.certificate_citing.specs.TokenText.{token_in}
@@ -22,7 +22,7 @@ returns g c = record {
       let claim = c.args.claim.now in
       let items = map token_in left in
       let after = c.check_cited-checked.new.tokens in
-      let o = cited_checked (position (g.G.Game.course c.args.game.now)) claim.depth claim.best claim.value items in
+      let o = cited_checked (position (g.G.Game.history c.args.game.now)) claim.depth claim.best claim.value items in
       let stops : StopsUnread cited_faults o c.check_cited-checked.result c.lines.result =
       subst (λ (n : ℕ). StopsUnread cited_faults o c.check_cited-checked.result n) (sym c.lines.ensures) (c.check_cited-checked.ensures.unread items (search rules) c.new-tokens.ensures.none) in
       walk-ends (IsUndecided 5 (of_cited 5 o) text) text _ _ (g.S.Source.rest after.source.now) _ _ _ after.reader.now _ _ c.lines.result c.new-tokens.ensures.same_reader (ap g.S.Source.rest c.new-tokens.ensures.same_source)

@@ -1,18 +1,18 @@
 use Rattle.std.proofs.Common.{◌≡◌, ◌∙◌, rules, sym}
 use Rattle.std.specs.Prelude.{Err}
-use Rattle.hive_model.specs.Courses.{position}
+use Rattle.hive_model.specs.Histories.{position}
 use Rattle.move_text.specs.Moves.{move_of}
 use Rattle.certificate_commands.proofs.ClaimLaws.{denoted, none-of-move, none-of-over}
 use Rattle.certificate_commands.proofs.claims.claimed.Goals as goal
 
 pub returns-then-is_over-clause-none : goal.returns-then-is_over-clause-none
 returns-then-is_over-clause-none g c =
-    none-of-over c.args.head.now (g.G.Game.course c.in-Ok.game) c.in-Ok.ensures.kind (c.in-Ok.ensures.made ∙ c.items.ensures) (sym c.is_over.ensures ∙ c.if-is_over.true)
+    none-of-over c.args.head.now (g.G.Game.history c.in-Ok.game) c.in-Ok.ensures.kind (c.in-Ok.ensures.made ∙ c.items.ensures) (sym c.is_over.ensures ∙ c.if-is_over.true)
 
 pub returns-in-Err-clause-none : goal.returns-in-Err-clause-none
 returns-in-Err-clause-none g c =
     let head = c.args.head.now in
-    let start = g.G.Game.course c.in-Ok.game in
+    let start = g.G.Game.history c.in-Ok.game in
     let kind = c.in-Ok.ensures.kind in
     let made : start.made ≡ head.moves = c.in-Ok.ensures.made ∙ c.items.ensures in
     let board : g.G.Board.stacks c.in-Ok.game ≡ (position start).board = search rules in

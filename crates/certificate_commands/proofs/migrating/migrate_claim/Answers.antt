@@ -7,7 +7,7 @@ use Rattle.certificate_verdicts.specs.Runs.{IsUndecided}
 use Rattle.certificate_commands.specs.Verdicts.{of_claim}
 use Rattle.certificate_commands.specs.Migrating.{MigratesHead}
 use Rattle.certificate_commands.proofs.ClaimLaws.{no-cause}
-use Rattle.certificate_commands.proofs.MigrateLaws.{course-items, course-writes, judged-late, judged-writes}
+use Rattle.certificate_commands.proofs.MigrateLaws.{history-items, history-writes, judged-late, judged-writes}
 use Rattle.certificate_commands.proofs.migrating.migrate_claim.Goals as goal
 
 pub returns-in-Ok : goal.returns-in-Ok
@@ -18,13 +18,13 @@ returns-in-Ok g c =
     let old = c.requires.old in
     let is = c.in-Ok.ensures.claims in record {
       told = λ left told.
-          course-writes head left (g.G.Game.course made.game) made.claim c.migrate_move.result _ _ (omega (arith, known, old)) is (c.migrate_move.ensures.told left told);
+          history-writes head left (g.G.Game.history made.game) made.claim c.migrate_move.result _ _ (omega (arith, known, old)) is (c.migrate_move.ensures.told left told);
       late = c.migrate_move.ensures.late;
       reads = search rules;
       writes = search rules;
       read = c.migrate_move.ensures.read;
       unread = λ left told text r e.
-          subst (λ (v : TextVerdict). IsUndecided 5 v text (g.S.Source.rest c.migrate_move.new.input)) (course-items head left (g.G.Game.course made.game) made.claim (omega (arith, known, old)) is) (c.migrate_move.ensures.unread left told text r e);
+          subst (λ (v : TextVerdict). IsUndecided 5 v text (g.S.Source.rest c.migrate_move.new.input)) (history-items head left (g.G.Game.history made.game) made.claim (omega (arith, known, old)) is) (c.migrate_move.ensures.unread left told text r e);
     }
 
 pub returns-in-Err : goal.returns-in-Err

@@ -1,6 +1,6 @@
 use Rattle.std.proofs.Common.{rules, ap, subst, sym}
 use Rattle.std.specs.Prelude.{ℕ, map, IfSome}
-use Rattle.hive_model.specs.Courses.{position}
+use Rattle.hive_model.specs.Histories.{position}
 use Rattle.certificate_walks.specs.Answers.{CountsBad, CountsRefused, StopsUnread}
 use Rattle.strategy_check.specs.Trace.{checked}
 use Rattle.certificate_text.specs.Text.{index_in}
@@ -19,7 +19,7 @@ returns g c =
     record {
       told = λ left e.
           let claim = c.args.claim.now in
-          let bad = subst (λ (n : ℕ). IfSome (answered c.migrate-migrated.result) (λ answer. CountsBad (checked (position (g.G.Game.course c.args.game.now)) claim.depth claim.best claim.value (map index_in left)) answer n)) (sym c.lines.ensures)
+          let bad = subst (λ (n : ℕ). IfSome (answered c.migrate-migrated.result) (λ answer. CountsBad (checked (position (g.G.Game.history c.args.game.now)) claim.depth claim.best claim.value (map index_in left)) answer n)) (sym c.lines.ensures)
           (c.migrate-migrated.ensures.items.bad (map index_in left) (search rules) c.new-indices.ensures.none) in
           search (rules, bad);
       late = search rules;
@@ -34,7 +34,7 @@ returns g c =
           let claim = c.args.claim.now in
           let items = map index_in left in
           let after = c.migrate-migrated.new.indices in
-          let p = position (g.G.Game.course c.args.game.now) in
+          let p = position (g.G.Game.history c.args.game.now) in
           let o = checked p claim.depth claim.best claim.value items in
           let stops : IfSome (answered c.migrate-migrated.result) (λ answer. StopsUnread index_faults o answer c.lines.result) =
           subst (λ (n : ℕ). IfSome (answered c.migrate-migrated.result) (λ answer. StopsUnread index_faults o answer n)) (sym c.lines.ensures)

@@ -1,4 +1,4 @@
-use Rattle.hive_model.specs.Courses.{Course, position}
+use Rattle.hive_model.specs.Histories.{History, position}
 use Rattle.std.proofs.Common.{◌≡◌, ℕ, List, rules, map, subst}
 use Rattle.certificate_text.specs.Text.{head_text, index_in}
 use Rattle.certificate_verdicts.specs.Runs.{IsUndecided}
@@ -11,7 +11,7 @@ use Rattle.certificate_commands.proofs.migrating.migrate_move.Goals as goal
 pub returns-then-not-is_legal : goal.returns-then-not-is_legal
 returns-then-not-is_legal g c = record {
   told = λ left told.
-      illegal-judged (position (g.G.Game.course c.args.game.now)) c.args.claim.now.depth c.args.claim.now.best c.args.claim.now.value (map index_in left) c.is_legal.result c.is_legal.ensures.legal c.if-not-is_legal.true;
+      illegal-judged (position (g.G.Game.history c.args.game.now)) c.args.claim.now.depth c.args.claim.now.best c.args.claim.now.value (map index_in left) c.is_legal.result c.is_legal.ensures.legal c.if-not-is_legal.true;
   late = search rules;
   reads = search rules;
   writes = search rules;
@@ -22,8 +22,8 @@ returns-then-not-is_legal g c = record {
 pub returns : goal.returns
 returns g c =
     let claim = c.args.claim.now in
-    let here : Course = g.G.Game.course c.is_legal.new.self in
-    let same : g.G.Game.course c.is_legal.new.self ≡ g.G.Game.course c.args.game.now = c.is_legal.ensures.same in
+    let here : History = g.G.Game.history c.is_legal.new.self in
+    let same : g.G.Game.history c.is_legal.new.self ≡ g.G.Game.history c.args.game.now = c.is_legal.ensures.same in
     let head : c.items.result.now ≡ head_text 2 here.game_type here.made claim.depth claim.best claim.value = search rules in
     let lines = c.migrate_lines.ensures in record {
       told = λ left told.
@@ -31,12 +31,12 @@ returns g c =
           let r = c.migrate_lines.result in
           let a = g.K.Sink.written c.args.output.now in
           let b = g.K.Sink.written c.migrate_lines.new.output in
-          subst (λ (x : Course). Writes (of_items (position x) claim.depth claim.best claim.value items) (OfItems (position x) claim.depth claim.best claim.value items (head_text 2 x.game_type x.made claim.depth claim.best claim.value)) r a b) same
+          subst (λ (x : History). Writes (of_items (position x) claim.depth claim.best claim.value items) (OfItems (position x) claim.depth claim.best claim.value items (head_text 2 x.game_type x.made claim.depth claim.best claim.value)) r a b) same
           (subst (λ (h : List ℕ). Writes (of_items (position here) claim.depth claim.best claim.value items) (OfItems (position here) claim.depth claim.best claim.value items h) r a b) head (lines.told left told));
       late = lines.late;
       reads = lines.reads;
       writes = lines.writes;
       read = lines.read;
       unread = λ left told text r e.
-          subst (λ (x : Course). IsUndecided 5 (of_items (position x) claim.depth claim.best claim.value (map index_in left)) text (g.S.Source.rest c.migrate_lines.new.input)) same (lines.unread left told text r e);
+          subst (λ (x : History). IsUndecided 5 (of_items (position x) claim.depth claim.best claim.value (map index_in left)) text (g.S.Source.rest c.migrate_lines.new.input)) same (lines.unread left told text r e);
     }

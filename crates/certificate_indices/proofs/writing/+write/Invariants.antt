@@ -1,6 +1,6 @@
 use Rattle.std.proofs.Common.{◌≡◌, ◌+◌, ◌*◌, Bool}
 use Rattle.hive_model.specs.Legal.{moves}
-use Rattle.hive_model.specs.Courses.{position}
+use Rattle.hive_model.specs.Histories.{position}
 use Rattle.search_laws.specs.Nodes.{AreAsBefore}
 use Rattle.io_edge.specs.Outside.{Told}
 use Rattle.certificate_walks.specs.Follows.{range_of}
@@ -22,9 +22,9 @@ decreases-write_node g l = 4 * l.depth + 2
 -- what is written for the moves that are left continues what was written for those before
 abbrev pub invariant-write_moves-loop-i : goal.invariant-write_moves-loop-i
 invariant-write_moves-loop-i g l =
-    let p = position (g.G.Game.course l.fn.game) in
+    let p = position (g.G.Game.history l.fn.game) in
     record {
-      before : AreAsBefore (g.G.Game.course l.fn.game) (g.G.Game.course l.game) l.fn.stack l.stack;
+      before : AreAsBefore (g.G.Game.history l.fn.game) (g.G.Game.history l.game) l.fn.stack l.stack;
       same : g.J.Judge.prepared l.judge ≡ g.J.Judge.prepared l.fn.judge;
       faults : g.K.Sink.write_faults l.sink ≡ g.K.Sink.write_faults l.fn.sink;
       wrote : (r : Bool) (b : Told) → Wrote r (lines_below p l.fn.depth l.fn.limit (range_of (moves p) l.i l.fn.to)) (g.K.Sink.written l.sink) b

@@ -1,6 +1,6 @@
 use Rattle.std.proofs.Common.{◌≡◌, drop}
 use Rattle.std.specs.List.{position_from}
-use Rattle.hive_model.specs.Courses.{is_move}
+use Rattle.hive_model.specs.Histories.{is_move}
 use Rattle.hive_model.specs.Stack.{level_of}
 use Rattle.certificate_walks.specs.Walks.{place_of}
 use Rattle.certificate_walks.proofs.root.find_move.Given as goal

@@ -1,6 +1,6 @@
 use Rattle.std.proofs.Common.{◌≡◌, length, ap, arith, ◌∙◌}
 use Rattle.hive_model.specs.Legal.{moves}
-use Rattle.hive_model.specs.Courses.{position}
+use Rattle.hive_model.specs.Histories.{position}
 use Rattle.search_laws.specs.Laws.{IsSmall}
 use Rattle.search_laws.proofs.Signs.{neg-is}
 use Rattle.search_laws.proofs.MinimaxLaws.{wider}
@@ -60,13 +60,13 @@ returns-then-not-is_done-3-clause-told g c =
 
 pub overflow_add-place : goal.overflow_add-place
 overflow_add-place g c =
-    let low = place-low (moves (position (g.G.Game.course c.args.game.now))) c.args.place c.args.claim.now.best c.requires.place in
-    let all : c.level_len-count.result ≡ length (moves (position (g.G.Game.course c.args.game.now))) = c.level_len-count.ensures ∙ ap length c.requires.replies.listed in
+    let low = place-low (moves (position (g.G.Game.history c.args.game.now))) c.args.place c.args.claim.now.best c.requires.place in
+    let all : c.level_len-count.result ≡ length (moves (position (g.G.Game.history c.args.game.now))) = c.level_len-count.ensures ∙ ap length c.requires.replies.listed in
     omega (arith, low, all)
 
 pub returns-clause-shown : goal.returns-clause-shown
 returns-clause-shown g c =
-    let start = g.G.Game.course c.args.game.now in
+    let start = g.G.Game.history c.args.game.now in
     let v = c.args.claim.now.value in
     let small : IsSmall 1000100 v = wider 1000064 1000100 v (omega arith) c.requires.claim.small in
     let e1 = c.walk_moves-before.ensures.game in

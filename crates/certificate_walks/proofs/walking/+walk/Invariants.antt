@@ -2,7 +2,7 @@ use Rattle.std.proofs.Common.{◌≡◌, ◌+◌, ◌*◌}
 use Rattle.hive_model.specs.declared.places.Move.{Move}
 use Rattle.hive_model.specs.Legal.{moves}
 use Rattle.hive_model.specs.Games.{after}
-use Rattle.hive_model.specs.Courses.{position}
+use Rattle.hive_model.specs.Histories.{position}
 use Rattle.certificate_walks.specs.Limits.{EachKeeps}
 use Rattle.certificate_walks.specs.Walks.{walk, walk_all}
 use Rattle.certificate_walks.specs.Follows.{Ending, Follows, range_of}
@@ -26,10 +26,10 @@ decreases-walk_below g l = 4 * l.depth + 2
 -- the walk of the moves that are left answers as the walk of all of them does
 abbrev pub invariant-walk_moves-loop-i : goal.invariant-walk_moves-loop-i
 invariant-walk_moves-loop-i g l =
-    let p = position (g.G.Game.course l.fn.game) in
+    let p = position (g.G.Game.history l.fn.game) in
     let f = λ (m : Move). walk g.W.Walker.rules (after p m) l.fn.depth l.fn.limit in
     record {
-      game : g.G.Game.course l.game ≡ g.G.Game.course l.fn.game;
+      game : g.G.Game.history l.game ≡ g.G.Game.history l.fn.game;
       stack : l.stack ≡ l.fn.stack;
       true_ : g.W.Walker.is_true l.fn.walker → g.W.Walker.is_true l.walker;
       shown : g.W.Walker.is_true l.fn.walker → EachKeeps p l.fn.depth l.fn.limit (range_of (moves p) l.i l.fn.to) → EachKeeps p l.fn.depth l.fn.limit (range_of (moves p) l.fn.from l.fn.to);

@@ -2,7 +2,7 @@ use Rattle.std.proofs.Common.{Some, sym, ◌∙◌, ap, subst}
 use Rattle.std.specs.Option.{is_some}
 use Rattle.std.proofs.lemmas.Option.{none-some, same_Some}
 use Rattle.hive_model.specs.Fields.{IsNumberText}
-use Rattle.command_words.specs.declared.care.Care.{Care}
+use Rattle.command_words.specs.declared.engine_limits.EngineLimits.{EngineLimits}
 use Rattle.command_words.proofs.audits.audit_at.Goals as goal
 
 pub returns-in_err-stop-clause-only : goal.returns-in_err-stop-clause-only
@@ -17,7 +17,7 @@ returns-clause-only c = λ a w.
     let kind = same_Some _ _ (c.in_ok-game_type.ensures.only a.game_type w.kind) in
     let stop = same_Some _ _ (c.in_ok-stop.ensures.only a.stop w.stop_is) in
     let care = same_Some _ _ (c.in_ok-care.ensures.only w.care w.care_is) in
-    let patient = c.is_some.ensures ∙ (ap (λ (x : Care). is_some x.limit) care ∙ sym w.patient_is) in
+    let patient = c.is_some.ensures ∙ (ap (λ (x : EngineLimits). is_some x.limit) care ∙ sym w.patient_is) in
     λ j. Some (record {
       games = games j;
       first = first j;

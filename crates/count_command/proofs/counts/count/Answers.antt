@@ -8,7 +8,7 @@ use Rattle.count_command.proofs.counts.count.Goals as goal
 
 pub returns-in-Ok : goal.returns-in-Ok
 returns-in-Ok g c = record {
-  run = counts_run c.args.plies c.tell_counts.result _ _ (g.G.Game.course c.in-Ok.game) c.in-Ok.ensures.game c.tell_counts.ensures.told;
+  run = counts_run c.args.plies c.tell_counts.result _ _ (g.G.Game.history c.in-Ok.game) c.in-Ok.ensures.game c.tell_counts.ensures.told;
   reads = search rules;
   writes = search rules;
 }

@@ -8,5 +8,5 @@ loop-i-preserved g c =
     let is : c.index.result.now ≡ get_or c.in_ok-classes.classes.items c.loop-i.i c.index.result.now = search rules in
     record {
       game = c.in_ok-push_part.ensures.game ∙ c.loop-i.invariant.game;
-      text = parts_more (g.G.Game.course c.args.game) (g.G.Game.course c.loop-i.game) c.in_ok-classes.classes.items c.loop-i.i c.index.result.now _ _ c.loop-i.invariant.game low is c.loop-i.invariant.text c.in_ok-push_part.ensures.written;
+      text = parts_more (g.G.Game.history c.args.game) (g.G.Game.history c.loop-i.game) c.in_ok-classes.classes.items c.loop-i.i c.index.result.now _ _ c.loop-i.invariant.game low is c.loop-i.invariant.text c.in_ok-push_part.ensures.written;
     }

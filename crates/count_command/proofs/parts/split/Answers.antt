@@ -8,7 +8,7 @@ use Rattle.count_command.proofs.parts.split.Goals as goal
 
 pub returns-in-Ok : goal.returns-in-Ok
 returns-in-Ok g c = record {
-  run = parts_run c.tell_parts.result _ _ (g.G.Game.course c.in-Ok.game) c.in-Ok.ensures.game c.tell_parts.ensures.told;
+  run = parts_run c.tell_parts.result _ _ (g.G.Game.history c.in-Ok.game) c.in-Ok.ensures.game c.tell_parts.ensures.told;
   reads = search rules;
   writes = search rules;
 }

@@ -8,7 +8,7 @@ use Rattle.count_command.proofs.shared.count_shared.Goals as goal
 
 pub returns-in-Ok : goal.returns-in-Ok
 returns-in-Ok g c = record {
-  run = counts_run c.args.plies c.tell_shared.result _ _ (g.G.Game.course c.in-Ok.game) c.in-Ok.ensures.game c.tell_shared.ensures.told;
+  run = counts_run c.args.plies c.tell_shared.result _ _ (g.G.Game.history c.in-Ok.game) c.in-Ok.ensures.game c.tell_shared.ensures.told;
   reads = search rules;
   writes = search rules;
 }

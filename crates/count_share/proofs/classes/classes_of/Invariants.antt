@@ -4,6 +4,6 @@ use Rattle.count_share.proofs.classes.classes_of.Given as goal
 
 abbrev pub invariant-loop-i : goal.invariant-loop-i
 invariant-loop-i g l = record {
-  game : g.G.Game.course l.game ≡ g.G.Game.course l.fn.game;
-  first : AreFirst (g.G.Game.course l.fn.game) l.i l.classes.items;
+  game : g.G.Game.history l.game ≡ g.G.Game.history l.fn.game;
+  first : AreFirst (g.G.Game.history l.fn.game) l.i l.classes.items;
 }

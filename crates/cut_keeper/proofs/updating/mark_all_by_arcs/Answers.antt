@@ -13,4 +13,4 @@ pub returns : goal.returns
 returns g c =
     let b = g.B.Board.stacks c.args.board.now in
     let all : c.loop-x.x ≡ 28 = omega (arith, c.loop-x-test.false, c.loop-x.auto.x-end) in
-    all_marked b c.is_board.ensures c.loop-x.marks (subst (AreMarked b c.loop-x.marks) all c.loop-x.invariant)
+    all_marked b c.lemma_board.ensures c.loop-x.marks (subst (AreMarked b c.loop-x.marks) all c.loop-x.invariant)

@@ -1,5 +1,5 @@
 use Rattle.std.proofs.Common.{rules, ◌≡◌, ◌∙◌, ap, arith, refl}
-use Rattle.hive_model.specs.Courses.{position}
+use Rattle.hive_model.specs.Histories.{position}
 use Rattle.hive_model.specs.Stack.{Levels}
 use Rattle.hive_model.specs.Minimax.{nodes}
 use Rattle.hive_model.specs.Costs.{share}
@@ -12,7 +12,7 @@ use Rattle.deepening.proofs.Searcher.best_in.Goals as goal
 pub returns-then-now-deadline-clause-timed : goal.returns-then-now-deadline-clause-timed
 returns-then-now-deadline-clause-timed g c =
     let turn = c.loop-depth.invariant in
-    let start = g.G.Game.course c.args.game.now in
+    let start = g.G.Game.history c.args.game.now in
     record {
       timed = search rules;
       in_time = search rules;
@@ -22,9 +22,9 @@ returns-then-now-deadline-clause-timed g c =
 
 pub returns-in_default-clause-timed : goal.returns-in_default-clause-timed
 returns-in_default-clause-timed g c =
-    let at = moment g.G.Game.course g.G.Game.played g.C.Clock.readings g.C.Clock.last g.C.Clock.previous in
+    let at = moment g.G.Game.history g.G.Game.played g.C.Clock.readings g.C.Clock.last g.C.Clock.previous in
     let turn = c.loop-depth.invariant in
-    let start = g.G.Game.course c.args.game.now in
+    let start = g.G.Game.history c.args.game.now in
     let d = c.loop-depth.depth in
     let now = at c.loop-depth.game c.loop-depth.self-inside.work c.now-now.new.self in
     let later = at c.best_reply.new.game c.best_reply.new.work c.best_reply.new.clock in
@@ -39,7 +39,7 @@ returns-in_default-clause-timed g c =
 pub returns-clause-timed : goal.returns-clause-timed
 returns-clause-timed g c =
     let turn = c.loop-depth.invariant in
-    let start = g.G.Game.course c.args.game.now in
+    let start = g.G.Game.history c.args.game.now in
     let last : c.loop-depth.depth ≡ 65 = omega (arith, c.loop-depth-test.false, c.loop-depth.auto.depth-end) in
     record {
       timed = search rules;
@@ -51,7 +51,7 @@ returns-clause-timed g c =
 pub best_reply-requires-clause-room : goal.best_reply-requires-clause-room
 best_reply-requires-clause-room g c =
     let turn = c.loop-depth.invariant in
-    let start = g.G.Game.course c.args.game.now in
+    let start = g.G.Game.history c.args.game.now in
     record {
       deep = omega (arith, c.loop-depth-test.true);
       spare = rw turn.game (omega (arith, c.loop-depth-test.true, c.requires.room.spare));
@@ -60,9 +60,9 @@ best_reply-requires-clause-room g c =
 
 pub loop-depth-preserved : goal.loop-depth-preserved
 loop-depth-preserved g c =
-    let at = moment g.G.Game.course g.G.Game.played g.C.Clock.readings g.C.Clock.last g.C.Clock.previous in
+    let at = moment g.G.Game.history g.G.Game.played g.C.Clock.readings g.C.Clock.last g.C.Clock.previous in
     let turn = c.loop-depth.invariant in
-    let start = g.G.Game.course c.args.game.now in
+    let start = g.G.Game.history c.args.game.now in
     let d = c.loop-depth.depth in
     let now = at c.loop-depth.game c.loop-depth.self-inside.work c.now-now.new.self in
     let later = at c.best_reply.new.game c.best_reply.new.work c.best_reply.new.clock in

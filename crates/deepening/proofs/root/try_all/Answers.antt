@@ -2,7 +2,7 @@ use Rattle.std.proofs.Common.{rules, ◌≡◌, ◌-◌, arith, refl, Some, to_z
 use Rattle.std.proofs.lemmas.Int.{ints}
 use Rattle.std.specs.List.{slice_get}
 use mir.Syntax.{w32}
-use Rattle.hive_model.specs.Courses.{position}
+use Rattle.hive_model.specs.Histories.{position}
 use Rattle.hive_model.specs.Legal.{moves}
 use Rattle.search_laws.proofs.NodeLaws.{node-at, node-reply}
 use Rattle.search_laws.proofs.HintLaws.{reply-low}
@@ -18,12 +18,12 @@ use Rattle.deepening.proofs.root.try_all.Goals as goal
 pub reply-requires : goal.reply-requires
 reply-requires g c = record {
   window = search rules;
-  can = node-reply (g.G.Game.course c.args.game.now) _ _ _ c.args.depth c.args.level c.in-Some.first c.get-m.result c.requires.node (record { game = refl; stack = refl }) c.get-m.ensures;
+  can = node-reply (g.G.Game.history c.args.game.now) _ _ _ c.args.depth c.args.level c.in-Some.first c.get-m.result c.requires.node (record { game = refl; stack = refl }) c.get-m.ensures;
 }
 
 pub returns-in_err-worth : goal.returns-in_err-worth
 returns-in_err-worth g c =
-    let start = g.G.Game.course c.args.game.now in
+    let start = g.G.Game.history c.args.game.now in
     let p = position start in
     let d = c.args.depth in
     let m = c.get-m.result in
@@ -36,28 +36,28 @@ returns-in_err-worth g c =
 
 pub try_in_turn-requires-clause-low : goal.try_in_turn-requires-clause-low
 try_in_turn-requires-clause-low g c =
-    let start = g.G.Game.course c.args.game.now in
+    let start = g.G.Game.history c.args.game.now in
     let first = first-known start _ c.args.depth c.args.level c.in-Some.first c.get-m.result c.in_ok-worth.worth c.requires.node c.get-m.ensures (search rules) c.in_ok-worth.ensures.answers.found in
     let least = reply-least (position start) c.args.depth c.get-m.result c.requires.node.deep in
     rw first.exact (omega (arith, ints, least))
 
 pub try_in_turn-requires-clause-high : goal.try_in_turn-requires-clause-high
 try_in_turn-requires-clause-high g c =
-    let start = g.G.Game.course c.args.game.now in
+    let start = g.G.Game.history c.args.game.now in
     let first = first-known start _ c.args.depth c.args.level c.in-Some.first c.get-m.result c.in_ok-worth.worth c.requires.node c.get-m.ensures (search rules) c.in_ok-worth.ensures.answers.found in
     let most = reply-low (position start) c.args.depth c.in-Some.first c.get-m.result c.requires.node.inner first.here in
     rw (first.exact, c.reply.ensures.spends.before.game) most
 
 pub try_in_turn-requires-clause-known : goal.try_in_turn-requires-clause-known
 try_in_turn-requires-clause-known g c =
-    let start = g.G.Game.course c.args.game.now in
+    let start = g.G.Game.history c.args.game.now in
     let first = first-known start _ c.args.depth c.args.level c.in-Some.first c.get-m.result c.in_ok-worth.worth c.requires.node c.get-m.ensures (search rules) c.in_ok-worth.ensures.answers.found in
-    known-here start (g.G.Game.course c.reply.new.game) c.args.depth c.in-Some.first c.get-m.result (to_z w32 (of_z w32 c.in_ok-worth.worth)) c.reply.ensures.spends.before.game first.here first.exact
+    known-here start (g.G.Game.history c.reply.new.game) c.args.depth c.in-Some.first c.get-m.result (to_z w32 (of_z w32 c.in_ok-worth.worth)) c.reply.ensures.spends.before.game first.here first.exact
 
 pub returns-then-first-level_len : goal.returns-then-first-level_len
 returns-then-first-level_len g c =
-    let at = moment g.G.Game.course g.G.Game.played g.C.Clock.readings g.C.Clock.last g.C.Clock.previous in
-    let start = g.G.Game.course c.args.game.now in
+    let at = moment g.G.Game.history g.G.Game.played g.C.Clock.readings g.C.Clock.last g.C.Clock.previous in
+    let start = g.G.Game.history c.args.game.now in
     let p = position start in
     let d = c.args.depth in
     let m = c.get-m.result in
@@ -73,12 +73,12 @@ returns-then-first-level_len g c =
 
 pub try_in_turn-requires-2-clause-high : goal.try_in_turn-requires-2-clause-high
 try_in_turn-requires-2-clause-high g c =
-    let small = small-value (position (g.G.Game.course c.args.game.now)) c.args.depth c.requires.node.deep in
+    let small = small-value (position (g.G.Game.history c.args.game.now)) c.args.depth c.requires.node.deep in
     omega (arith, ints, small.low)
 
 pub returns : goal.returns
 returns g c =
-    let p = position (g.G.Game.course c.args.game.now) in
+    let p = position (g.G.Game.history c.args.game.now) in
     let more = turns-within p c.args.depth _ _ (plays-of _ _ _ _ refl refl c.try_in_turn-2.ensures.spends) in
     record {
       spends = spends-as _ _ _ _ _ _ c.try_in_turn-2.ensures.spends (no-nodes p c.args.depth c.requires.node.inner) (omega (arith, more));

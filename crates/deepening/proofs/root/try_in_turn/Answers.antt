@@ -8,7 +8,7 @@ use Rattle.hive_model.specs.declared.places.Move.{Move}
 use Rattle.hive_model.specs.Games.{after}
 use Rattle.hive_model.specs.Minimax.{reply_value}
 use Rattle.hive_model.specs.Costs.{cost}
-use Rattle.hive_model.specs.Courses.{position}
+use Rattle.hive_model.specs.Histories.{position}
 use Rattle.hive_model.specs.Legal.{moves}
 use Rattle.search_laws.proofs.MinimaxLaws.{moves-not_over}
 use Rattle.search_laws.proofs.Signs.{lt-true, lt-false}
@@ -18,7 +18,7 @@ use Rattle.search_laws.proofs.HintLaws.{here-in}
 use Rattle.search_core.specs.Times.{behind}
 use Rattle.search_core.specs.Moments.{moment}
 use Rattle.search_core.proofs.TimeLaws.{less}
-use Rattle.search_core.proofs.PurseLaws.{ended-then}
+use Rattle.search_core.proofs.CreditLaws.{ended-then}
 use Rattle.search_core.proofs.CountLaws.{in_time-none, in_time-then}
 use Rattle.search_core.proofs.MomentLaws.{spends-none, spends-as, spends-then, spends-here, answers-some, answers-no}
 use Rattle.deepening.proofs.RootStops.{root-from, root-alpha, known-at, known-if, known-nodes, turns-begin, turns-end, turns-stop, turn-left_of, turn-paid, plays-of}
@@ -28,13 +28,13 @@ use Rattle.deepening.proofs.root.try_in_turn.Goals.{then-found-greatest, else-fo
 
 pub get-best-requires-clause-place : goal.get-best-requires-clause-place
 get-best-requires-clause-place g c =
-    let p = position (g.G.Game.course c.args.game.now) in
+    let p = position (g.G.Game.history c.args.game.now) in
     let all : c.level_len-count.result ≡ length (moves p) = c.level_len-count.ensures ∙ ap length c.requires.node.listed in
     omega (arith, all, c.level_len-count.ensures, moves-not_over p c.requires.node.inner.open_)
 
 pub loop-i-init : goal.loop-i-init
 loop-i-init g c =
-    let p = position (g.G.Game.course c.args.game.now) in
+    let p = position (g.G.Game.history c.args.game.now) in
     let small = small-value p c.args.depth c.requires.node.deep in
     record {
       spends = spends-as _ _ 0 0 _ _ (spends-none _) (omega arith) (omega arith);
@@ -46,7 +46,7 @@ loop-i-init g c =
 
 pub worth_of-requires-clause-window : goal.worth_of-requires-clause-window
 worth_of-requires-clause-window g c =
-    let p = position (g.G.Game.course c.args.game.now) in
+    let p = position (g.G.Game.history c.args.game.now) in
     let low = c.loop-i.invariant.root.low in
     let top = root-value p c.args.depth c.loop-i.i _ _ c.loop-i.invariant.root in
     let small = small-value p c.args.depth c.requires.node.deep in
@@ -58,12 +58,12 @@ worth_of-requires-clause-window g c =
 
 pub worth_of-requires-clause-can : goal.worth_of-requires-clause-can
 worth_of-requires-clause-can g c =
-    rw c.again.ensures (node-reply (g.G.Game.course c.args.game.now) _ _ _ c.args.depth c.args.level c.loop-i.i c.get-m.result c.requires.node c.loop-i.invariant.spends.before c.get-m.ensures)
+    rw c.again.ensures (node-reply (g.G.Game.history c.args.game.now) _ _ _ c.args.depth c.args.level c.loop-i.i c.get-m.result c.requires.node c.loop-i.invariant.spends.before c.get-m.ensures)
 
 pub worth_of-requires-clause-known : goal.worth_of-requires-clause-known
 worth_of-requires-clause-known g c =
     let turn = c.loop-i.invariant in
-    let p = position (g.G.Game.course c.args.game.now) in
+    let p = position (g.G.Game.history c.args.game.now) in
     let here : slice_get (moves p) c.loop-i.i ≡ Some c.get-m.result = here-in _ _ _ _ _ _ turn.spends.before.stack c.requires.node.listed c.get-m.ensures in
     known-if _ c.args.begun.hint c.loop-i.i c.args.begun.worth c.known_at.result c.known_at.ensures
     (λ e. rw (c.again.ensures, turn.spends.before.game)
@@ -71,8 +71,8 @@ worth_of-requires-clause-known g c =
 
 pub loop-i-preserved : goal.loop-i-preserved
 loop-i-preserved g c =
-    let at = moment g.G.Game.course g.G.Game.played g.C.Clock.readings g.C.Clock.last g.C.Clock.previous in
-    let start = g.G.Game.course c.args.game.now in
+    let at = moment g.G.Game.history g.G.Game.played g.C.Clock.readings g.C.Clock.last g.C.Clock.previous in
+    let start = g.G.Game.history c.args.game.now in
     let p = position start in
     let d = c.args.depth in
     let turn = c.loop-i.invariant in
@@ -122,8 +122,8 @@ loop-i-preserved g c =
 
 pub returns-in_err-found-clause-spends : goal.returns-in_err-found-clause-spends
 returns-in_err-found-clause-spends g c =
-    let at = moment g.G.Game.course g.G.Game.played g.C.Clock.readings g.C.Clock.last g.C.Clock.previous in
-    let start = g.G.Game.course c.args.game.now in
+    let at = moment g.G.Game.history g.G.Game.played g.C.Clock.readings g.C.Clock.last g.C.Clock.previous in
+    let start = g.G.Game.history c.args.game.now in
     let p = position start in
     let d = c.args.depth in
     let turn = c.loop-i.invariant in
@@ -140,7 +140,7 @@ returns-in_err-found-clause-spends g c =
     let spent_here = spends-here (λ q. cond (is_some c.known_at.result) 0 (behind q (d - 1) m)) (λ q. 1 + cost (after q m) (d - 1) (neg_ℤ window.beta) (neg_ℤ window.alpha)) start earlier later same spent in
     let fewer = turn-left_of p d c.loop-i.i m c.args.begun.hint here in
     let paid = turn-paid _ _ _ _ _ fewer turn.left (known-nodes c.args.begun.hint c.loop-i.i c.args.begun.worth c.known_at.result (behind p (d - 1) m) c.known_at.ensures) in
-    let stopped = turns-stop start (g.G.Game.course c.loop-i.game) d c.loop-i.i best m window _ _ _ same here alpha refl turn.plays more in
+    let stopped = turns-stop start (g.G.Game.history c.loop-i.game) d c.loop-i.i best m window _ _ _ same here alpha refl turn.plays more in
     spends-as _ _ _ _ _ _ (spends-then _ _ _ _ _ _ _ turn.spends spent_here) (omega (arith, paid)) (omega (arith, stopped))
 
 pub returns-in_err-found-clause-answers : goal.returns-in_err-found-clause-answers
@@ -155,7 +155,7 @@ returns-clause-spends g c =
 
 pub returns-clause-answers : goal.returns-clause-answers
 returns-clause-answers g c =
-    let p = position (g.G.Game.course c.args.game.now) in
+    let p = position (g.G.Game.history c.args.game.now) in
     let all : c.level_len-count.result ≡ length (moves p) = c.level_len-count.ensures ∙ ap length c.requires.node.listed in
     let past : length (moves p) ≤ c.loop-i.i = omega (arith, all, c.loop-i-test.false) in
     answers-some _ _ _ _

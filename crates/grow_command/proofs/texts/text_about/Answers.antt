@@ -4,7 +4,7 @@ use Rattle.grow_command.proofs.texts.text_about.Goals as goal
 
 pub returns : goal.returns
 returns g c =
-    let course = g.G.Game.course c.args.grown.now.game in
-    lines-pushed c.args.seed course.game_type course.made c.args.grown.now.moves c.args.grown.now.undone c.new-text.result c.push_number.new.text c.push_line.new.text c.push_number-2.new.text c.push_line-2.new.text
+    let history = g.G.Game.history c.args.grown.now.game in
+    lines-pushed c.args.seed history.game_type history.made c.args.grown.now.moves c.args.grown.now.undone c.new-text.result c.push_number.new.text c.push_line.new.text c.push_number-2.new.text c.push_line-2.new.text
     c.push_number-3.new.text c.push_number-4.new.text c.push_best.new.text c.push_game.new.out
     (search rules) (search rules) (search rules) (search rules) (search rules) (search rules) (search rules) (search rules) (search rules)

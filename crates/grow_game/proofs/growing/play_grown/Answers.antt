@@ -1,7 +1,7 @@
 use Rattle.std.proofs.Common.{rules, ◌≡◌, ◌+◌, ◌^◌, ◌<◌, true, false, List, [], ◌∷◌, ◌++◌, refl, sym, ◌∙◌, ap, subst, arith}
 use Rattle.std.specs.Int.{w64, from_le_bytes}
 use Rattle.hive_model.specs.Legal.{is_over, is_over_state}
-use Rattle.hive_model.specs.Courses.{position}
+use Rattle.hive_model.specs.Histories.{position}
 use Rattle.hive_model.specs.Stack.{Levels}
 use Rattle.grow_game.specs.declared.plies.Ply.{Ply}
 use Rattle.grow_game.specs.Growing.{seeded, next_state}
@@ -10,7 +10,7 @@ use Rattle.grow_game.proofs.growing.play_grown.Goals as goal
 
 pub loop-ply-init : goal.loop-ply-init
 loop-ply-init g c =
-    let start = g.G.Game.course c.args.game.now in
+    let start = g.G.Game.history c.args.game.now in
     let begun : c.from_seed-generator.result ≡ seeded c.args.seed = c.from_seed-generator.ensures ∙ ap (from_le_bytes w64) c.to_le_bytes.ensures in
     let none = growing-none c.args.seed c.args.plies start start c.from_seed-generator.result c.requires.fresh refl begun in
     record {
@@ -21,7 +21,7 @@ loop-ply-init g c =
 
 pub returns-then-is_over-clause-made : goal.returns-then-is_over-clause-made
 returns-then-is_over-clause-made g c =
-    let over : is_over (position (g.G.Game.course c.loop-ply.game)) ≡ true = sym (ap is_over_state c.state.ensures.state) ∙ sym c.is_over.ensures ∙ c.if-is_over.true in
+    let over : is_over (position (g.G.Game.history c.loop-ply.game)) ≡ true = sym (ap is_over_state c.state.ensures.state) ∙ sym c.is_over.ensures ∙ c.if-is_over.true in
     growing-over _ _ _ _ _ _ _ _ c.loop-ply.invariant.growing over
 
 pub returns-then-is_over-clause-few : goal.returns-then-is_over-clause-few
@@ -57,9 +57,9 @@ overflow_add-chosen g c =
 
 pub loop-ply-preserved : goal.loop-ply-preserved
 loop-ply-preserved g c =
-    let start = g.G.Game.course c.args.game.now in
-    let now = g.G.Game.course c.loop-ply.game in
-    let next = g.G.Game.course c.play_drawn-drawn.new.game in
+    let start = g.G.Game.history c.args.game.now in
+    let now = g.G.Game.history c.loop-ply.game in
+    let next = g.G.Game.history c.play_drawn-drawn.new.game in
     let turn = c.loop-ply.invariant in
     let spare = turn.growing.spare in
     let enough = c.requires.spare in

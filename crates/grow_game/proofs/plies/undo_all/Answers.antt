@@ -6,7 +6,7 @@ use Rattle.grow_game.proofs.TurnLaws.{back-none, back-some, back-key, back-all}
 use Rattle.grow_game.proofs.plies.undo_all.Goals as goal
 
 pub loop-i-init : goal.loop-i-init
-loop-i-init g c = back-none (g.G.Game.course c.args.game.now) c.args.plies.now c.requires.made
+loop-i-init g c = back-none (g.G.Game.history c.args.game.now) c.args.plies.now c.requires.made
 
 pub comes_back-requires : goal.comes_back-requires
 comes_back-requires g c =

@@ -1,5 +1,5 @@
-use Rattle.hive_model.proofs.SpotLemmas.{is_board}
+use Rattle.hive_model.proofs.SpotLemmas.{lemma_board}
 use Rattle.hive_model.proofs.spots.spots_are_board.Goals as goal
 
 pub returns : goal.returns
-returns c = is_board c.args.spots.now c.requires
+returns c = lemma_board c.args.spots.now c.requires

@@ -16,6 +16,6 @@ returns g c =
     let low = subst (λ n. n < 28) c.index-number.ensures.index c.index-number.ensures.bound in
     let two = c.at_least_one-most.ensures.few in
     let few : c.at_least_one-most.result ≤ 320 = omega (arith, two) in
-    afar_told b c.is_board.ensures c.args.side c.requires.white c.requires.black (c.requires.found.two (sym c.has_two.ensures ∙ c.if-not-has_two.false))
+    afar_told b c.lemma_board.ensures c.args.side c.requires.white c.requires.black (c.requires.found.two (sym c.has_two.ensures ∙ c.if-not-has_two.false))
     c.args.piece low (nothing_there _ c.requires.absent) (λ e. eqb-false _ _ (sym c.if-eq.ensures) (e ∙ sym c.queen.ensures)) c.at_least_one-most.result c.args.held c.at_least_one-most.ensures.most c.requires.held
     _ (stripped b (other_side c.args.side) c.turned_worth.result c.at_least_one-most.result c.turned_worth.ensures few)

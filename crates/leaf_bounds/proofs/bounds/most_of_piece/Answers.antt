@@ -17,6 +17,6 @@ returns g c =
     let own = c.in-Some.ensures.most in
     let two = c.at_least_one.ensures.few in
     let few : c.in-Some.gain + c.at_least_one.result ≤ 320 = omega (arith, own, two) in
-    piece_told b c.is_board.ensures c.args.side c.requires.white c.requires.black (c.requires.found.two (sym c.has_two.ensures ∙ c.if-not-has_two.false))
+    piece_told b c.lemma_board.ensures c.args.side c.requires.white c.requires.black (c.requires.found.two (sym c.has_two.ensures ∙ c.if-not-has_two.false))
     c.args.piece low (nothing_there _ c.requires.absent) (λ e. eqb-false _ _ (sym c.if-eq.ensures) (e ∙ sym c.queen.ensures)) c.at_least_one.result c.args.held c.at_least_one.ensures.most c.requires.held
     _ c.in-Some.ensures.few c.in-Some.gain (stripped b (other_side c.args.side) c.turned_worth.result (c.in-Some.gain + c.at_least_one.result) c.turned_worth.ensures few) c.in-Some.ensures.gain

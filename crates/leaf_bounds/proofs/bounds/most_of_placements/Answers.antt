@@ -19,6 +19,6 @@ returns g c =
     let most : held_weight b None (other_side c.args.side) ≤ 280 = held_few b None (other_side c.args.side) in
     let held = c.requires.held in
     let few : c.args.held ≤ 320 = omega (arith, most, held) in
-    placements_told b c.is_board.ensures c.args.side c.requires.white c.requires.black (c.requires.found.two (sym c.has_two.ensures ∙ c.if-not-has_two.false))
+    placements_told b c.lemma_board.ensures c.args.side c.requires.white c.requires.black (c.requires.found.two (sym c.has_two.ensures ∙ c.if-not-has_two.false))
     (subst (HasColour b) c.other.ensures (c.has_own.ensures c.if-not-has_own.false)) (c.is_queen_open.ensures c.if-not-is_queen_open.false)
     _ c.args.held (stripped b (other_side c.args.side) c.turned_worth.result c.args.held c.turned_worth.ensures few) c.requires.held

@@ -12,9 +12,9 @@ returns-then-over g c =
 pub returns-then-pairs-eq0 : goal.returns-then-pairs-eq0
 returns-then-pairs-eq0 g c =
     let p = position_of (g.B.Board.stacks c.args.board.now) c.args.turn.now in
-    one_pass p c.is_board.ensures (sym c.requires ∙ c.if-over.false) c.count_pairs-pairs.result c.count_pairs-pairs.ensures c.if-pairs-eq0.true
+    one_pass p c.lemma_board.ensures (sym c.requires ∙ c.if-over.false) c.count_pairs-pairs.result c.count_pairs-pairs.ensures c.if-pairs-eq0.true
 
 pub returns : goal.returns
 returns g c =
     let p = position_of (g.B.Board.stacks c.args.board.now) c.args.turn.now in
-    many_moves p c.is_board.ensures (sym c.requires ∙ c.if-over.false) c.count_pairs-pairs.result c.count_pairs-pairs.ensures (omega (arith, c.if-pairs-eq0.false))
+    many_moves p c.lemma_board.ensures (sym c.requires ∙ c.if-over.false) c.count_pairs-pairs.result c.count_pairs-pairs.ensures (omega (arith, c.if-pairs-eq0.false))

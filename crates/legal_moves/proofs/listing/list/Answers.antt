@@ -18,7 +18,7 @@ returns-then-level_len-eq0 g c =
     let p = position_of b c.args.turn.now in
     let s = c.push_pairs.new.out in
     let short = last_long s c.levels.result c.level_len.result c.levels.ensures c.level_len.ensures ∙ c.if-level_len-eq0.true in
-    c.push.ensures ∙ pass_listed p c.is_board.ensures (sym c.requires.over ∙ c.if-over.false) c.args.out.now c.begin_level.new.self s c.begin_level.ensures c.requires.level c.push_pairs.ensures short
+    c.push.ensures ∙ pass_listed p c.lemma_board.ensures (sym c.requires.over ∙ c.if-over.false) c.args.out.now c.begin_level.new.self s c.begin_level.ensures c.requires.level c.push_pairs.ensures short
 
 pub returns-else-level_len-eq0 : goal.returns-else-level_len-eq0
 returns-else-level_len-eq0 g c =
@@ -27,4 +27,4 @@ returns-else-level_len-eq0 g c =
     let s = c.push_pairs.new.out in
     let many = last_long s c.levels.result c.level_len.result c.levels.ensures c.level_len.ensures in
     let long : 0 < length (last_level s) = omega (arith, many, c.if-level_len-eq0.false) in
-    pairs_listed p c.is_board.ensures (sym c.requires.over ∙ c.if-over.false) c.args.out.now c.begin_level.new.self s c.begin_level.ensures c.requires.level c.push_pairs.ensures long
+    pairs_listed p c.lemma_board.ensures (sym c.requires.over ∙ c.if-over.false) c.args.out.now c.begin_level.new.self s c.begin_level.ensures c.requires.level c.push_pairs.ensures long

@@ -20,7 +20,7 @@ pub returns-in-Pass : goal.returns-in-Pass
 returns-in-Pass g c =
     let b = g.B.Board.stacks c.args.board.now in
     let p = position_of b c.args.turn.now in
-    let law = pass_is_listed p c.is_board.ensures (sym c.requires ∙ c.if-over.false) in
+    let law = pass_is_listed p c.lemma_board.ensures (sym c.requires ∙ c.if-over.false) in
     subst (λ m. IsTrue (not c.has_pair.result) ↔ IsOn (moves p) m) (sym c.in-Pass.is) (
       λ e. law.0 (iff_false c.has_pair.ensures (not-true _ e)),
       λ on. not_from_false _ (false_from_ne_true _ (λ e. law.1 on (c.has_pair.ensures.0 e))),
@@ -30,7 +30,7 @@ pub returns-in-To : goal.returns-in-To
 returns-in-To g c =
     let b = g.B.Board.stacks c.args.board.now in
     let p = position_of b c.args.turn.now in
-    let law = pair_is_listed p c.is_board.ensures (sym c.requires ∙ c.if-over.false) c.in-To.piece c.in-To.place in
+    let law = pair_is_listed p c.lemma_board.ensures (sym c.requires ∙ c.if-over.false) c.in-To.piece c.in-To.place in
     subst (λ m. IsTrue c.is_pair.result ↔ IsOn (moves p) m) (sym c.in-To.is) (
       λ e. law.0 (c.is_pair.ensures.0 e),
       λ on. c.is_pair.ensures.1 (law.1 on),

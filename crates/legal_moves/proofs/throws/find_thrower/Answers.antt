@@ -10,7 +10,7 @@ pub mark_beside-requires : goal.mark_beside-requires
 mark_beside-requires g c =
     let b = g.B.Board.stacks c.args.board.now in
     let by : IsThrower b c.again.result c.args.thrower c.in-Some.over = subst (ThrowsFrom b c.again.result c.args.thrower) c.in-Some.is c.throwing_spot.ensures in
-    spot_mapped b c.args.thrower c.in-Some.over c.is_board.ensures by.stands
+    spot_mapped b c.args.thrower c.in-Some.over c.lemma_board.ensures by.stands
 
 pub returns-clause-over : goal.returns-clause-over
 returns-clause-over g c =

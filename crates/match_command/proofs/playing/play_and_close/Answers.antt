@@ -15,6 +15,6 @@ returns-in-Ok-clause-played g c timed =
     let r : Watch = watch (g.C.Clock.last ran.clock) (g.C.Clock.readings ran.clock) in
     let old = g.P.Spawner.engines c.args.spawner.now in
     let new = g.P.Spawner.engines c.close_both.new.spawner in
-    let full : FullSetup = setup_from c.args.setup (g.G.Game.course c.args.game).made in
+    let full : FullSetup = setup_from c.args.setup (g.G.Game.history c.args.game).made in
     told_match c.tell_match.result full c.in-Ok.referee w0 b0 (times r0.last r0.readings timed) (times r.last r.readings timed) old new c.tell_match.ensures
     (played_over full c.in-Ok.referee w0 w b0 b r0 r timed old new c.requires.white_fresh c.requires.black_fresh c.in-Ok.ensures.ran c.close_both.ensures.failed c.close_both.ensures.sent)

@@ -16,7 +16,7 @@ returns-in-Ok g c =
     let after : List Timed → World = λ timed. world (sides rest (g.K.Sink.written new.output)) (times (g.C.Clock.last new.clock) (g.C.Clock.readings new.clock) timed) (g.P.Spawner.engines new.spawner) in
     record {
       run = λ timed.
-          begun_from c.args.setup c.typed-setup.result (map string_bytes c.args.white.now) (map string_bytes c.args.black.now) c.play_match_from.result (g.G.Game.course c.in-Ok.game)
+          begun_from c.args.setup c.typed-setup.result (map string_bytes c.args.white.now) (map string_bytes c.args.black.now) c.play_match_from.result (g.G.Game.history c.in-Ok.game)
           (before timed) (after timed) same c.in-Ok.ensures.game
           (c.play_match_from.ensures.run rest timed) c.play_match_from.ensures.started;
       ends = c.play_match_from.ensures.ends;

@@ -3,14 +3,14 @@ use Rattle.hive_model.specs.declared.places.Move.{Move}
 use Rattle.hive_model.specs.Boards.{IsBoard}
 use Rattle.hive_model.specs.Positions.{Position}
 use Rattle.hive_model.specs.Keys.{key}
-use Rattle.hive_model.specs.Courses.{Course, position}
+use Rattle.hive_model.specs.Histories.{History, position}
 use Rattle.opening_book.specs.Book.{line_count}
 use Rattle.opening_book.proofs.plies.count_plies.Given as goal
 
 abbrev pub invariant-loop-i : goal.invariant-loop-i
 invariant-loop-i g l =
-    let whole : Course = g.G.Game.course l.initial.played in
-    let now : Course = g.G.Game.course l.played in
+    let whole : History = g.G.Game.history l.initial.played in
+    let now : History = g.G.Game.history l.played in
     record {
       game_type : now.game_type ≡ whole.game_type;
       made : now.made ≡ take (length whole.made - l.i) whole.made;

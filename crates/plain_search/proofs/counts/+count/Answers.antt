@@ -1,7 +1,7 @@
 use Rattle.std.proofs.Common.{rules, ◌≡◌, ◌+◌, ◌-◌, ◌^◌, ◌<◌, Some, refl, arith}
 use Rattle.std.specs.List.{slice_get}
 use Rattle.hive_model.specs.Legal.{moves}
-use Rattle.hive_model.specs.Courses.{position}
+use Rattle.hive_model.specs.Histories.{position}
 use Rattle.search_laws.proofs.TurnLaws.{move-here, move-legal}
 use Rattle.search_laws.specs.Nodes.{CanReply}
 use Rattle.search_laws.proofs.NodeLaws.{reply-room, before-then}
@@ -27,11 +27,11 @@ pub lines_behind-returns-clause-count : goal.lines_behind-returns-clause-count
 lines_behind-returns-clause-count g t c = behind-count _ _ _ _ _ c.play.ensures.moved c.lines_from-lines.ensures.count
 
 pub lines_once-known_count-requires : goal.lines_once-known_count-requires
-lines_once-known_count-requires g t c = legal_placed _ c.args.m c.is_sound.ensures.sound.board c.requires.can.legal
+lines_once-known_count-requires g t c = legal_placed _ c.args.m c.lemma_sound.ensures.sound.board c.requires.can.legal
 
 pub lines_once-returns-in-Some-clause-count : goal.lines_once-returns-in-Some-clause-count
 lines_once-returns-in-Some-clause-count g t c =
-    image-count (g.G.Game.course c.args.game.now) c.args.own.now c.args.known.now.items c.as_slice.result.now c.args.m c.args.plies _ _ c.is_sound.ensures.game c.plies-few.ensures.plies
+    image-count (g.G.Game.history c.args.game.now) c.args.own.now c.args.known.now.items c.as_slice.result.now c.args.m c.args.plies _ _ c.lemma_sound.ensures.game c.plies-few.ensures.plies
     c.plies-few.ensures.few c.requires.deep c.requires.own c.requires.known c.requires.can.legal c.as_slice.ensures.value c.in-Some.ensures
 
 pub lines_once-returns-clause-known : goal.lines_once-returns-clause-known
@@ -53,14 +53,14 @@ lines_from-loop-i-init g t c = record {
 pub lines_from-lines_once-total-requires : goal.lines_from-lines_once-total-requires
 lines_from-lines_once-total-requires g t c κs within =
     let turn = c.loop-i.invariant in
-    let start = g.G.Game.course c.args.game.now in
-    let can : CanReply c.get-m.result (c.args.plies - 1) (g.G.Game.course c.loop-i.game) c.loop-i.stack = record {
+    let start = g.G.Game.history c.args.game.now in
+    let can : CanReply c.get-m.result (c.args.plies - 1) (g.G.Game.history c.loop-i.game) c.loop-i.stack = record {
       legal = move-legal start start _ _ _ _ _ _ _ refl c.list.ensures.listed turn.before.stack c.levels-level.ensures c.get-m.ensures turn.before.game;
       deep = omega arith;
       spare = spare-before _ _ _ turn.before.game c.requires.room.spare (omega arith);
       free = levels-left _ _ _ _ _ turn.before.stack c.list.ensures.listed c.requires.room.free;
     } in
-    let own = own-then start (g.G.Game.course c.loop-i.game) _ c.as_slice-own.result.now turn.before.game c.as_slice-own.ensures.value c.symmetries_of-own.ensures in
+    let own = own-then start (g.G.Game.history c.loop-i.game) _ c.as_slice-own.result.now turn.before.game c.as_slice-own.ensures.value c.symmetries_of-own.ensures in
     let known = known-then start _ _ _ turn.before.game turn.known in (
       search rules,
       (within, (omega arith, (few-now _ _ _ turn.before.game c.requires.few (omega arith), (can, (own, known))))),
@@ -69,7 +69,7 @@ lines_from-lines_once-total-requires g t c κs within =
 pub lines_from-overflow_add-total : goal.lines_from-overflow_add-total
 lines_from-overflow_add-total g t c =
     let turn = c.loop-i.invariant in
-    let start = g.G.Game.course c.args.game.now in
+    let start = g.G.Game.history c.args.game.now in
     let here : slice_get (moves (position start)) c.loop-i.i ≡ Some c.get-m.result =
     move-here start start _ _ _ _ _ _ refl c.list.ensures.listed turn.before.stack c.levels-level.ensures c.get-m.ensures in
     let small : c.loop-i.total + c.lines_once-total.result < 2 ^ 128 =
@@ -79,7 +79,7 @@ lines_from-overflow_add-total g t c =
 pub lines_from-loop-i-preserved : goal.lines_from-loop-i-preserved
 lines_from-loop-i-preserved g t c =
     let turn = c.loop-i.invariant in
-    let start = g.G.Game.course c.args.game.now in
+    let start = g.G.Game.history c.args.game.now in
     let here : slice_get (moves (position start)) c.loop-i.i ≡ Some c.get-m.result =
     move-here start start _ _ _ _ _ _ refl c.list.ensures.listed turn.before.stack c.levels-level.ensures c.get-m.ensures in
     record {

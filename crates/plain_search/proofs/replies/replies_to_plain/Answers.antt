@@ -11,5 +11,5 @@ returns-in-Some-clause-count g c =
 pub returns-clause-known : goal.returns-clause-known
 returns-clause-known g c =
     counted-more _ _ _ c.args.place _ c.requires.known
-    (placed-once _ c.is_sound.ensures.sound.board c.args.piece c.args.place _ c.requires.legal c.requires.plain c.replies_after-replies.ensures.count)
+    (placed-once _ c.lemma_sound.ensures.sound.board c.args.piece c.args.place _ c.requires.legal c.requires.plain c.replies_after-replies.ensures.count)
     c.note.ensures

@@ -3,7 +3,7 @@ use Rattle.std.specs.List.{slice_get}
 use mir.Val.{SFits}
 use mir.Syntax.{w32}
 use Rattle.hive_model.specs.Legal.{moves}
-use Rattle.hive_model.specs.Courses.{position}
+use Rattle.hive_model.specs.Histories.{position}
 use Rattle.search_laws.proofs.MinimaxLaws.{value-begin}
 use Rattle.search_laws.proofs.Signs.{neg-fits, neg-is}
 use Rattle.search_laws.proofs.TurnLaws.{move-here}
@@ -19,7 +19,7 @@ minimax-loop-i-init g t c = record {
 
 pub minimax-reply-requires : goal.minimax-reply-requires
 minimax-reply-requires g t c κs within =
-    let start = g.G.Game.course c.args.game.now in
+    let start = g.G.Game.history c.args.game.now in
     let same = c.leaf_value.ensures.same in
     let node = node-listed start _ start _ _ c.args.depth c.levels-level.result c.requires.room c.in_default.ensures.leaf same (sym same) c.list.ensures.listed c.levels-level.ensures in (
       search rules,
@@ -32,7 +32,7 @@ reply-minimax-worth-requires g t c κs within = (search rules, (within, reply-ro
 pub minimax-loop-i-preserved : goal.minimax-loop-i-preserved
 minimax-loop-i-preserved g t c =
     let turn = c.loop-i.invariant in
-    let start = g.G.Game.course c.args.game.now in
+    let start = g.G.Game.history c.args.game.now in
     let best : ℤ = to_z w32 c.loop-i.best-bits in
     let fits : SFits w32 c.reply.result = search rules in
     let here : slice_get (moves (position start)) c.loop-i.i ≡ Some c.get-m.result =

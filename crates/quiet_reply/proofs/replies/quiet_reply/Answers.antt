@@ -13,4 +13,4 @@ returns g c =
     let p = position_of b c.args.turn.now in
     let going : is_over p ≡ false = going_on p (c.is_open.ensures c.if-not-is_open.false) (c.is_open-2.ensures c.if-not-is_open-2.false) in
     some_then (IsQuiet b c.args.turn.now.side) (value p 0 ≤ℤ (value p 1 +ℤ pos (rest_weight c.args.turn.now.rest))) c.find_quiet.result
-    (λ q quiet. quiet_replies p c.is_board.ensures going (reply_of p c.in_ok-piece.piece q c.in_ok-piece.ensures.brought c.in_ok-piece.ensures.no_queen quiet)) c.find_quiet.ensures
+    (λ q quiet. quiet_replies p c.lemma_board.ensures going (reply_of p c.in_ok-piece.piece q c.in_ok-piece.ensures.brought c.in_ok-piece.ensures.no_queen quiet)) c.find_quiet.ensures

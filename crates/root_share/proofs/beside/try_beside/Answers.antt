@@ -1,7 +1,7 @@
 use Rattle.std.proofs.Common.{rules, ◌≡◌, refl, sym, ◌∙◌, to_z, of_z}
 use Rattle.std.proofs.lemmas.Int.{to_z-of_z}
 use mir.Syntax.{w32}
-use Rattle.hive_model.specs.Courses.{position}
+use Rattle.hive_model.specs.Histories.{position}
 use Rattle.root_share.proofs.ReadyLaws.{begin-still, may-search, root-of, top-of, depth-of, depth-known, latest-read, bound-read-is}
 use Rattle.root_share.proofs.PlaysLaws.{child-more}
 use Rattle.root_share.proofs.TakenLaws.{closed-since, tried-closed}
@@ -71,7 +71,7 @@ returns-in_default-clause-worker g c =
     record {
       game = made.game;
       searcher = made.searcher;
-      plays = child-more _ (position (g.G.Game.course c.args.worker.now.game)) c.args.work.now.depth c.args.child.now.m c.args.seat.now.me.0.top c.look-bound.result _ _ (sym c.requires.may.begin.ready.stands) c.look-bound.ensures.grows
+      plays = child-more _ (position (g.G.Game.history c.args.worker.now.game)) c.args.work.now.depth c.args.child.now.m c.args.seat.now.me.0.top c.look-bound.result _ _ (sym c.requires.may.begin.ready.stands) c.look-bound.ensures.grows
           (rw (kept, c.again.ensures) at made.plays);
     }
 
@@ -110,6 +110,6 @@ returns-clause-worker g c =
     record {
       game = made.game;
       searcher = made.searcher;
-      plays = child-more _ (position (g.G.Game.course c.args.worker.now.game)) c.args.work.now.depth c.args.child.now.m c.args.seat.now.me.0.top c.look-bound.result _ _ (sym c.requires.may.begin.ready.stands) c.look-bound.ensures.grows
+      plays = child-more _ (position (g.G.Game.history c.args.worker.now.game)) c.args.work.now.depth c.args.child.now.m c.args.seat.now.me.0.top c.look-bound.result _ _ (sym c.requires.may.begin.ready.stands) c.look-bound.ensures.grows
           (rw (kept, c.again.ensures) at made.plays);
     }

@@ -3,7 +3,7 @@ use Rattle.std.proofs.lemmas.Int.{to_z-of_z}
 use mir.Syntax.{w32}
 use Rattle.search_laws.proofs.Signs.{neg-fits, neg-is}
 use Rattle.search_laws.specs.Laws.{IsSmall}
-use Rattle.search_laws.proofs.CourseLaws.{move-made, move-undone}
+use Rattle.search_laws.proofs.HistoryLaws.{move-made, move-undone}
 use Rattle.root_share.proofs.ChildLaws.{small-found, tested-found, room-behind, beta-behind, child-plays}
 use Rattle.root_share.proofs.ReadyLaws.{depth-of}
 use Rattle.root_share.proofs.beside.value_until_raised.Goals as goal
@@ -27,11 +27,11 @@ value_until-found-requires-clause-window g c = record {
 pub value_until-found-requires-clause-room : goal.value_until-found-requires-clause-room
 value_until-found-requires-clause-room g c = record {
   prepared = c.requires.child.enough;
-  spare = room-behind (g.G.Game.course c.args.worker.now.game) _ c.args.m _ c.play.ensures.moved c.requires.child.spare;
+  spare = room-behind (g.G.Game.history c.args.worker.now.game) _ c.args.m _ c.play.ensures.moved c.requires.child.spare;
 }
 
 pub undo-requires : goal.undo-requires
-undo-requires g c = move-made (g.G.Game.course c.args.worker.now.game) _ _ c.args.m c.play.ensures.moved c.value_until-found.ensures.game
+undo-requires g c = move-made (g.G.Game.history c.args.worker.now.game) _ _ c.args.m c.play.ensures.moved c.value_until-found.ensures.game
 
 pub overflow_sub-result : goal.overflow_sub-result
 overflow_sub-result g c =
@@ -43,11 +43,11 @@ returns-in-Some-clause-tested g c =
     let beta : c.window_behind-behind.result.beta ≡ pos 1 -ℤ c.args.bound = beta-behind c.args.bound _ _ (to_z-of_z w32 c.args.bound (search rules)) c.window_behind-behind.ensures.beta in
     let deep = c.requires.child.deep in
     let small : IsSmall 1000100 c.in-Some.value = small-found (pos 0) c.args.depth c.args.bound _ _ _ (omega (arith, deep)) c.requires.bound.low c.requires.bound.high c.window_behind-behind.ensures.alpha beta c.in-Some.ensures.found in
-    tested-found (g.G.Game.course c.args.worker.now.game) _ c.args.m c.args.depth c.args.bound c.in-Some.value _ _ (omega (arith, deep)) c.play.ensures.moved c.window_behind-behind.ensures.alpha beta (neg-is _ small) c.in-Some.ensures.found
+    tested-found (g.G.Game.history c.args.worker.now.game) _ c.args.m c.args.depth c.args.bound c.in-Some.value _ _ (omega (arith, deep)) c.play.ensures.moved c.window_behind-behind.ensures.alpha beta (neg-is _ small) c.in-Some.ensures.found
 
 pub returns-in-Some-clause-worker : goal.returns-in-Some-clause-worker
 returns-in-Some-clause-worker g c = record {
-  game = move-undone (g.G.Game.course c.args.worker.now.game) _ _ _ c.args.m (omega (arith, c.requires.child.spare)) c.play.ensures.moved c.value_until-found.ensures.game c.undo.ensures.back;
+  game = move-undone (g.G.Game.history c.args.worker.now.game) _ _ _ c.args.m (omega (arith, c.requires.child.spare)) c.play.ensures.moved c.value_until-found.ensures.game c.undo.ensures.back;
   searcher = c.value_until-found.ensures.searcher;
   plays = child-plays _ _ _ _ c.args.bound _ _ _ _ _ c.play.ensures.moved c.window_behind-behind.ensures.alpha (beta-behind c.args.bound _ _ (to_z-of_z w32 c.args.bound (search rules)) c.window_behind-behind.ensures.beta) c.play.ensures.count c.value_until-found.ensures.played c.undo.ensures.count;
 }
@@ -78,7 +78,7 @@ returns-clause-view g c = c.halve-other.ensures.same
 
 pub returns-clause-worker : goal.returns-clause-worker
 returns-clause-worker g c = record {
-  game = move-undone (g.G.Game.course c.args.worker.now.game) _ _ _ c.args.m (omega (arith, c.requires.child.spare)) c.play.ensures.moved c.value_until-found.ensures.game c.undo.ensures.back;
+  game = move-undone (g.G.Game.history c.args.worker.now.game) _ _ _ c.args.m (omega (arith, c.requires.child.spare)) c.play.ensures.moved c.value_until-found.ensures.game c.undo.ensures.back;
   searcher = c.value_until-found.ensures.searcher;
   plays = child-plays _ _ _ _ c.args.bound _ _ _ _ _ c.play.ensures.moved c.window_behind-behind.ensures.alpha (beta-behind c.args.bound _ _ (to_z-of_z w32 c.args.bound (search rules)) c.window_behind-behind.ensures.beta) c.play.ensures.count c.value_until-found.ensures.played c.undo.ensures.count;
 }

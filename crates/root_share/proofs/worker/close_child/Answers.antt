@@ -1,7 +1,7 @@
 use Rattle.std.proofs.Common.{rules, ◌≡◌, to_z, of_z, sym, arith}
 use Rattle.std.proofs.lemmas.Int.{ints, to_z-of_z}
 use mir.Syntax.{w32}
-use Rattle.hive_model.specs.Courses.{position}
+use Rattle.hive_model.specs.Histories.{position}
 use Rattle.search_laws.proofs.RootLaws.{small-value}
 use Rattle.root_share.proofs.PlaysLaws.{child-more}
 use Rattle.root_share.proofs.ReadyLaws.{may-search}
@@ -37,5 +37,5 @@ returns-clause-worker g c =
     record {
       game = made.game;
       searcher = made.searcher;
-      plays = child-more _ (position (g.G.Game.course c.args.worker.now.game)) c.args.work.now.depth c.args.child.now.m c.args.bound c.args.bound _ _ (sym c.requires.may.begin.ready.stands) (omega (arith, ints)) (rw (kept, c.again.ensures) at made.plays);
+      plays = child-more _ (position (g.G.Game.history c.args.worker.now.game)) c.args.work.now.depth c.args.child.now.m c.args.bound c.args.bound _ _ (sym c.requires.may.begin.ready.stands) (omega (arith, ints)) (rw (kept, c.again.ensures) at made.plays);
     }

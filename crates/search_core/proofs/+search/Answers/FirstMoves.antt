@@ -9,7 +9,7 @@ use Rattle.hive_model.specs.Legal.{moves}
 use Rattle.hive_model.specs.Games.{after}
 use Rattle.hive_model.specs.Minimax.{nodes, reply_value}
 use Rattle.hive_model.specs.Costs.{tries_cost}
-use Rattle.hive_model.specs.Courses.{position}
+use Rattle.hive_model.specs.Histories.{position}
 use Rattle.search_laws.specs.Tries.{tried_cost}
 use Rattle.search_laws.proofs.Signs.{at-least}
 use Rattle.search_laws.specs.Found.{IsFound}
@@ -28,24 +28,24 @@ use Rattle.search_core.proofs.+search.Goals as goal
 
 pub node_moves::search_others-returns-clause-spends : goal.node_moves::search_others-returns-clause-spends
 node_moves::search_others-returns-clause-spends g t c =
-    let at = moment_within g.G.Game.course g.G.Game.played g.C.Clock.readings g.C.Clock.last g.C.Clock.previous in
+    let at = moment_within g.G.Game.history g.G.Game.played g.C.Clock.readings g.C.Clock.last g.C.Clock.previous in
     let begun = at c.args.game.now c.args.work.now c.args.clock.now in
     let ended = at c.search_early-answer.new.game c.search_early-answer.new.work c.search_early-answer.new.clock in
-    let start = g.G.Game.course c.args.game.now in
+    let start = g.G.Game.history c.args.game.now in
     let p = position start in
     let d = c.args.node.depth in
     let w = c.args.node.window in
     let listed = moves-listed start start _ _ _ _ refl refl c.list.ensures.listed c.levels-level.ensures in
     let place = place-some c.place_of-place.result (moves p) c.args.m.now (place-listed _ _ c.args.m.now c.place_of-place.result listed c.place_of-place.ensures.found) (none-listed _ _ c.args.m.now c.place_of-place.result listed c.place_of-place.ensures.none) c.requires.legal in
     let others = spends-from (λ q. sum_but c.place_of-place.result 0 (behind q (d - 1)) (moves q)) (λ q. tries_cost (tried_cost q (d - 1) w.beta) (reply_value q (d - 1)) w.alpha w.beta (moves q))
-    (record begun { levels = c.list.new.out }) (g.G.Game.course c.list.new.self) (g.G.Game.played c.list.new.self) ended c.list.ensures.same c.list.ensures.count c.search_early-answer.ensures.spends in
+    (record begun { levels = c.list.new.out }) (g.G.Game.history c.list.new.self) (g.G.Game.played c.list.new.self) ended c.list.ensures.same c.list.ensures.count c.search_early-answer.ensures.spends in
     spends-more _ _ _ _ _ _
     (spends-level begun c.list.new.out c.drop_level.new.self ended (moves p) _ _ (omega (arith, c.requires.room.free, c.requires.inner.deep)) c.list.ensures.listed c.drop_level.ensures others)
     (others-nodes p d place.0 c.args.m.now c.place_of-place.result c.requires.inner place.2 place.1) (omega arith)
 
 pub node_moves::search_from-returns-in_err-found-clause-spends : goal.node_moves::search_from-returns-in_err-found-clause-spends
 node_moves::search_from-returns-in_err-found-clause-spends g t c =
-    let start = g.G.Game.course c.args.game.now in
+    let start = g.G.Game.history c.args.game.now in
     let p = position start in
     let d = c.args.node.depth in
     let w = c.args.node.window in
@@ -56,7 +56,7 @@ node_moves::search_from-returns-in_err-found-clause-spends g t c =
 
 pub node_moves::search_from-returns-then-found-node-clause-spends : goal.node_moves::search_from-returns-then-found-node-clause-spends
 node_moves::search_from-returns-then-found-node-clause-spends g t c =
-    let start = g.G.Game.course c.args.game.now in
+    let start = g.G.Game.history c.args.game.now in
     let p = position start in
     let d = c.args.node.depth in
     let w = c.args.node.window in
@@ -67,7 +67,7 @@ node_moves::search_from-returns-then-found-node-clause-spends g t c =
 
 pub node_moves::search_from-returns-then-found-node-clause-answers : goal.node_moves::search_from-returns-then-found-node-clause-answers
 node_moves::search_from-returns-then-found-node-clause-answers g t c =
-    let start = g.G.Game.course c.args.game.now in
+    let start = g.G.Game.history c.args.game.now in
     let p = position start in
     let d = c.args.node.depth in
     let w = c.args.node.window in
@@ -84,7 +84,7 @@ node_moves::search_from-returns-then-found-node-clause-answers g t c =
 
 pub node_moves::search_from-search_others-requires : goal.node_moves::search_from-search_others-requires
 node_moves::search_from-search_others-requires g t c κs within =
-    let start = g.G.Game.course c.args.game.now in
+    let start = g.G.Game.history c.args.game.now in
     let p = position start in
     let d = c.args.node.depth in
     let w = c.args.node.window in
@@ -94,7 +94,7 @@ node_moves::search_from-search_others-requires g t c κs within =
     let left : FirstRest (reply_value p (d - 1) m) w rest =
     first-rest start start (d - 1) m c.in_ok-found.found c.max.result w refl c.requires.window (search rules) c.max.ensures.value c.if-found-node.false c.in_ok-found.ensures.answers.found in
     let same = c.reply_with.ensures.spends.before.game in
-    let later = g.G.Game.course c.reply_with.new.game in (
+    let later = g.G.Game.history c.reply_with.new.game in (
       search rules,
       (
         within.0,
@@ -119,10 +119,10 @@ node_moves::search_from-search_others-requires g t c κs within =
 
 pub node_moves::search_from-returns-clause-spends : goal.node_moves::search_from-returns-clause-spends
 node_moves::search_from-returns-clause-spends g t c =
-    let at = moment_within g.G.Game.course g.G.Game.played g.C.Clock.readings g.C.Clock.last g.C.Clock.previous in
+    let at = moment_within g.G.Game.history g.G.Game.played g.C.Clock.readings g.C.Clock.last g.C.Clock.previous in
     let tried = at c.reply_with.new.game c.reply_with.new.work c.reply_with.new.clock in
     let ended = at c.search_others.new.game c.search_others.new.work c.search_others.new.clock in
-    let start = g.G.Game.course c.args.game.now in
+    let start = g.G.Game.history c.args.game.now in
     let p = position start in
     let d = c.args.node.depth in
     let w = c.args.node.window in
@@ -141,7 +141,7 @@ node_moves::search_from-returns-clause-spends g t c =
 
 pub node_moves::search_from-returns-clause-answers : goal.node_moves::search_from-returns-clause-answers
 node_moves::search_from-returns-clause-answers g t c =
-    let start = g.G.Game.course c.args.game.now in
+    let start = g.G.Game.history c.args.game.now in
     let p = position start in
     let d = c.args.node.depth in
     let w = c.args.node.window in
@@ -154,11 +154,11 @@ node_moves::search_from-returns-clause-answers g t c =
     let same = c.reply_with.ensures.spends.before.game in
     let most = reply-low p d place.0 m c.requires.inner here in
     answers-then _ _ c.search_others.result _ _ _ c.reply_with.ensures.spends.time.deadline c.in_ok-found.ensures.answers.in_time
-    (λ a found. first-found _ _ w rest a.value left.is left.beta most c.requires.window.open_ (found-here start (g.G.Game.course c.reply_with.new.game) d rest a.value same found)) c.search_others.ensures.answers
+    (λ a found. first-found _ _ w rest a.value left.is left.beta most c.requires.window.open_ (found-here start (g.G.Game.history c.reply_with.new.game) d rest a.value same found)) c.search_others.ensures.answers
 
 pub node_moves::search_hinted-returns-in_default-clause-spends : goal.node_moves::search_hinted-returns-in_default-clause-spends
 node_moves::search_hinted-returns-in_default-clause-spends g t c =
-    let start = g.G.Game.course c.args.game.now in
+    let start = g.G.Game.history c.args.game.now in
     let p = position start in
     let d = c.args.node.depth in
     let w = c.args.node.window in
@@ -166,7 +166,7 @@ node_moves::search_hinted-returns-in_default-clause-spends g t c =
 
 pub node_moves::search_hinted-returns-then-first-level_len-clause-spends : goal.node_moves::search_hinted-returns-then-first-level_len-clause-spends
 node_moves::search_hinted-returns-then-first-level_len-clause-spends g t c =
-    let start = g.G.Game.course c.args.game.now in
+    let start = g.G.Game.history c.args.game.now in
     let p = position start in
     let d = c.args.node.depth in
     let w = c.args.node.window in
@@ -189,7 +189,7 @@ node_moves::search_hinted-reply_with-requires g t c κs within = (
 
 pub node_moves::search_hinted-returns-in_err-found-clause-spends : goal.node_moves::search_hinted-returns-in_err-found-clause-spends
 node_moves::search_hinted-returns-in_err-found-clause-spends g t c =
-    let start = g.G.Game.course c.args.game.now in
+    let start = g.G.Game.history c.args.game.now in
     let p = position start in
     let d = c.args.node.depth in
     let w = c.args.node.window in
@@ -199,7 +199,7 @@ node_moves::search_hinted-returns-in_err-found-clause-spends g t c =
 
 pub node_moves::search_hinted-returns-then-found-node-clause-spends : goal.node_moves::search_hinted-returns-then-found-node-clause-spends
 node_moves::search_hinted-returns-then-found-node-clause-spends g t c =
-    let start = g.G.Game.course c.args.game.now in
+    let start = g.G.Game.history c.args.game.now in
     let p = position start in
     let d = c.args.node.depth in
     let w = c.args.node.window in
@@ -209,7 +209,7 @@ node_moves::search_hinted-returns-then-found-node-clause-spends g t c =
 
 pub node_moves::search_hinted-returns-then-found-node-clause-answers : goal.node_moves::search_hinted-returns-then-found-node-clause-answers
 node_moves::search_hinted-returns-then-found-node-clause-answers g t c =
-    let start = g.G.Game.course c.args.game.now in
+    let start = g.G.Game.history c.args.game.now in
     let p = position start in
     let d = c.args.node.depth in
     let w = c.args.node.window in
@@ -225,7 +225,7 @@ node_moves::search_hinted-returns-then-found-node-clause-answers g t c =
 
 pub node_moves::search_hinted-search_early-requires-2 : goal.node_moves::search_hinted-search_early-requires-2
 node_moves::search_hinted-search_early-requires-2 g t c κs within =
-    let start = g.G.Game.course c.args.game.now in
+    let start = g.G.Game.history c.args.game.now in
     let p = position start in
     let d = c.args.node.depth in
     let w = c.args.node.window in
@@ -250,7 +250,7 @@ node_moves::search_hinted-search_early-requires-2 g t c κs within =
 
 pub node_moves::search_hinted-returns-clause-spends : goal.node_moves::search_hinted-returns-clause-spends
 node_moves::search_hinted-returns-clause-spends g t c =
-    let start = g.G.Game.course c.args.game.now in
+    let start = g.G.Game.history c.args.game.now in
     let p = position start in
     let d = c.args.node.depth in
     let w = c.args.node.window in
@@ -260,7 +260,7 @@ node_moves::search_hinted-returns-clause-spends g t c =
     let left : FirstRest (reply_value p (d - 1) m) w rest =
     first-rest start start (d - 1) m c.in_ok-found.found c.max.result w refl c.requires.window (search rules) c.max.ensures.value c.if-found-node.false c.in_ok-found.ensures.answers.found in
     let same = c.reply_with.ensures.spends.before.game in
-    let at = moment_within g.G.Game.course g.G.Game.played g.C.Clock.readings g.C.Clock.last g.C.Clock.previous in
+    let at = moment_within g.G.Game.history g.G.Game.played g.C.Clock.readings g.C.Clock.last g.C.Clock.previous in
     let tried = at c.reply_with.new.game c.reply_with.new.work c.reply_with.new.clock in
     let ended = at c.search_early-2.new.game c.search_early-2.new.work c.search_early-2.new.clock in
     let others = spends-here (λ q. sum_but (Some c.in-Some.first) 0 (behind q (d - 1)) (moves q)) (λ q. tries_cost (tried_cost q (d - 1) rest.beta) (reply_value q (d - 1)) rest.alpha rest.beta (moves q)) start tried ended same c.search_early-2.ensures.spends in
@@ -269,7 +269,7 @@ node_moves::search_hinted-returns-clause-spends g t c =
 
 pub node_moves::search_hinted-returns-clause-answers : goal.node_moves::search_hinted-returns-clause-answers
 node_moves::search_hinted-returns-clause-answers g t c =
-    let start = g.G.Game.course c.args.game.now in
+    let start = g.G.Game.history c.args.game.now in
     let p = position start in
     let d = c.args.node.depth in
     let w = c.args.node.window in
@@ -281,4 +281,4 @@ node_moves::search_hinted-returns-clause-answers g t c =
     let same = c.reply_with.ensures.spends.before.game in
     let most = reply-low p d c.in-Some.first m c.requires.listed.inner here in
     answers-then _ _ c.search_early-2.result _ _ _ c.reply_with.ensures.spends.time.deadline c.in_ok-found.ensures.answers.in_time
-    (λ a found. first-found _ _ w rest a.value left.is left.beta most c.requires.window.open_ (found-here start (g.G.Game.course c.reply_with.new.game) d rest a.value same found)) c.search_early-2.ensures.answers
+    (λ a found. first-found _ _ w rest a.value left.is left.beta most c.requires.window.open_ (found-here start (g.G.Game.history c.reply_with.new.game) d rest a.value same found)) c.search_early-2.ensures.answers

@@ -13,7 +13,7 @@ use Rattle.search_laws.proofs.FoundLaws.{found-within}
 use Rattle.search_laws.proofs.TurnLaws.{reply-found}
 use Rattle.std.specs.Prelude.{if◌then◌else◌}
 use Rattle.search_core.proofs.CountLaws.{in_time-then, in_time-tick, counts-tick}
-use Rattle.search_core.proofs.PurseLaws.{ended-then}
+use Rattle.search_core.proofs.CreditLaws.{ended-then}
 use Rattle.search_core.specs.Moments.{moment_within}
 use Rattle.search_core.proofs.MomentLaws.{Plays, spends-none, spends-more, spends-play, answers-some, answers-none}
 use Rattle.search_core.proofs.+search.Goals as goal
@@ -40,10 +40,10 @@ turned-open w o = record {
 
 pub replies::play_reply-returns-then-tick-clause-spends : goal.replies::play_reply-returns-then-tick-clause-spends
 replies::play_reply-returns-then-tick-clause-spends g t c =
-    let at = moment_within g.G.Game.course g.G.Game.played g.C.Clock.readings g.C.Clock.last g.C.Clock.previous in
+    let at = moment_within g.G.Game.history g.G.Game.played g.C.Clock.readings g.C.Clock.last g.C.Clock.previous in
     let start = at c.args.game.now c.args.work.now c.args.clock.now in
-    let paid : c.pay.new.self.saved + (if start.purse.early then 1 else 0) ≡ start.purse.saved = c.if-not-pay.ensures.paid refl in
-    let made : Plays start c.args.m (g.G.Game.course c.play.new.self) (g.G.Game.played c.play.new.self) c.pay.new.self c.tick.new.self (g.C.Clock.readings c.tick.new.clock) (g.C.Clock.last c.tick.new.clock) = record {
+    let paid : c.pay.new.self.saved + (if start.credit.early then 1 else 0) ≡ start.credit.saved = c.if-not-pay.ensures.paid refl in
+    let made : Plays start c.args.m (g.G.Game.history c.play.new.self) (g.G.Game.played c.play.new.self) c.pay.new.self c.tick.new.self (g.C.Clock.readings c.tick.new.clock) (g.C.Clock.last c.tick.new.clock) = record {
       moved = c.play.ensures.moved;
       count = c.play.ensures.count;
       mode = c.pay.ensures.mode;
@@ -72,10 +72,10 @@ replies::play_reply-overflow_sub-result g t c =
 
 pub replies::play_reply-returns-in-Some-clause-spends : goal.replies::play_reply-returns-in-Some-clause-spends
 replies::play_reply-returns-in-Some-clause-spends g t c =
-    let at = moment_within g.G.Game.course g.G.Game.played g.C.Clock.readings g.C.Clock.last g.C.Clock.previous in
+    let at = moment_within g.G.Game.history g.G.Game.played g.C.Clock.readings g.C.Clock.last g.C.Clock.previous in
     let start = at c.args.game.now c.args.work.now c.args.clock.now in
-    let paid : c.pay.new.self.saved + (if start.purse.early then 1 else 0) ≡ start.purse.saved = c.if-not-pay.ensures.paid refl in
-    let made : Plays start c.args.m (g.G.Game.course c.play.new.self) (g.G.Game.played c.play.new.self) c.pay.new.self c.tick.new.self (g.C.Clock.readings c.tick.new.clock) (g.C.Clock.last c.tick.new.clock) = record {
+    let paid : c.pay.new.self.saved + (if start.credit.early then 1 else 0) ≡ start.credit.saved = c.if-not-pay.ensures.paid refl in
+    let made : Plays start c.args.m (g.G.Game.history c.play.new.self) (g.G.Game.played c.play.new.self) c.pay.new.self c.tick.new.self (g.C.Clock.readings c.tick.new.clock) (g.C.Clock.last c.tick.new.clock) = record {
       moved = c.play.ensures.moved;
       count = c.play.ensures.count;
       mode = c.pay.ensures.mode;
@@ -88,10 +88,10 @@ replies::play_reply-returns-in-Some-clause-spends g t c =
 
 pub replies::play_reply-returns-in-None-clause-spends : goal.replies::play_reply-returns-in-None-clause-spends
 replies::play_reply-returns-in-None-clause-spends g t c =
-    let at = moment_within g.G.Game.course g.G.Game.played g.C.Clock.readings g.C.Clock.last g.C.Clock.previous in
+    let at = moment_within g.G.Game.history g.G.Game.played g.C.Clock.readings g.C.Clock.last g.C.Clock.previous in
     let start = at c.args.game.now c.args.work.now c.args.clock.now in
-    let paid : c.pay.new.self.saved + (if start.purse.early then 1 else 0) ≡ start.purse.saved = c.if-not-pay.ensures.paid refl in
-    let made : Plays start c.args.m (g.G.Game.course c.play.new.self) (g.G.Game.played c.play.new.self) c.pay.new.self c.tick.new.self (g.C.Clock.readings c.tick.new.clock) (g.C.Clock.last c.tick.new.clock) = record {
+    let paid : c.pay.new.self.saved + (if start.credit.early then 1 else 0) ≡ start.credit.saved = c.if-not-pay.ensures.paid refl in
+    let made : Plays start c.args.m (g.G.Game.history c.play.new.self) (g.G.Game.played c.play.new.self) c.pay.new.self c.tick.new.self (g.C.Clock.readings c.tick.new.clock) (g.C.Clock.last c.tick.new.clock) = record {
       moved = c.play.ensures.moved;
       count = c.play.ensures.count;
       mode = c.pay.ensures.mode;

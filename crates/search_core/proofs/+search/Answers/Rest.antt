@@ -10,7 +10,7 @@ use Rattle.hive_model.specs.Games.{after}
 use Rattle.hive_model.specs.Minimax.{nodes, reply_value}
 use Rattle.hive_model.specs.Costs.{cost}
 use Rattle.std.specs.Prelude.{◌+◌, neg_ℤ}
-use Rattle.hive_model.specs.Courses.{position}
+use Rattle.hive_model.specs.Histories.{position}
 use Rattle.search_laws.proofs.Signs.{at-least, below}
 use Rattle.search_laws.proofs.NodeLaws.{node-reply}
 use Rattle.search_laws.specs.declared.window.Window.{Window}
@@ -20,7 +20,7 @@ use Rattle.search_core.proofs.PassLaws.{or-false, held-low, left-falls, pass-pla
 use Rattle.search_core.proofs.TimeLaws.{turn-left, turn-nodes, stop-tries, less, raised-low, raised-high}
 use Rattle.search_core.proofs.CountLaws.{in_time-then}
 use Rattle.search_core.proofs.WindowLaws.{beta-coded, open-raised, at-most-then}
-use Rattle.search_core.proofs.PurseLaws.{ended-then}
+use Rattle.search_core.proofs.CreditLaws.{ended-then}
 use Rattle.search_core.specs.Moments.{moment_within}
 use Rattle.search_core.proofs.MomentLaws.{spends-as, spends-then, spends-here, answers-some, answers-no}
 use Rattle.search_core.proofs.+search.Goals as goal
@@ -28,7 +28,7 @@ use Rattle.search_core.proofs.+search.Goals as goal
 pub rest::search_rest-loop-i-preserved-then-hold : goal.rest::search_rest-loop-i-preserved-then-hold
 rest::search_rest-loop-i-preserved-then-hold g t c =
     let turn = c.loop-i.invariant in
-    let p = position (g.G.Game.course c.args.game.now) in
+    let p = position (g.G.Game.history c.args.game.now) in
     let d = c.args.node.depth in
     let all : c.level_len-count.result ≡ length (moves p) = c.level_len-count.ensures ∙ ap length c.requires.node.listed.listed in
     let place = at-place (moves p) c.loop-i.i (omega (arith, all, c.loop-i-test.true)) in
@@ -49,23 +49,23 @@ rest::search_rest-loop-i-preserved-then-hold g t c =
 
 pub rest::search_rest-loop-i-preserved-then-i-candidate : goal.rest::search_rest-loop-i-preserved-then-i-candidate
 rest::search_rest-loop-i-preserved-then-i-candidate g t c =
-    let at = moment_within g.G.Game.course g.G.Game.played g.C.Clock.readings g.C.Clock.last g.C.Clock.previous in
+    let at = moment_within g.G.Game.history g.G.Game.played g.C.Clock.readings g.C.Clock.last g.C.Clock.previous in
     let turn = c.loop-i.invariant in
     let start = at c.args.game.now c.args.work.now c.args.clock.now in
     let now = at c.loop-i.game c.loop-i.work c.loop-i.clock in
-    let p = position (g.G.Game.course c.args.game.now) in
+    let p = position (g.G.Game.history c.args.game.now) in
     let d = c.args.node.depth in
     let all : c.level_len-count.result ≡ length (moves p) = c.level_len-count.ensures ∙ ap length c.requires.node.listed.listed in
     let place = at-place (moves p) c.loop-i.i (omega (arith, all, c.loop-i-test.true)) in
     let low : reply_value p (d - 1) place.0 ≤ℤ to_z w32 c.loop-i.alpha-bits = turn.passed c.loop-i.i place.0 (omega arith) (omega (arith, c.if-i-candidate.true)) place.1 in
     let other = or-false _ _ _ (sym c.hold.ensures ∙ c.if-hold.false) in
     let fewer = turn-nodes p d c.loop-i.i place.0 c.args.places.hint place.1 other turn.left in
-    let one : c.save.new.self.saved ≤ now.purse.saved + 1 = c.save.ensures.one in
+    let one : c.save.new.self.saved ≤ now.credit.saved + 1 = c.save.ensures.one in
     record {
       low = turn.low;
       high = turn.high;
       left = less _ _ _ _ (turn-left p d c.loop-i.i place.0 c.args.places.hint place.1 other) turn.left;
-      spends = spends-as start (record now { purse = c.save.new.self }) _ _ _ _ (spends-saved start now _ _ c.save.new.self turn.spends c.save.ensures.mode one c.save.ensures.early) (omega (arith, fewer)) (omega arith);
+      spends = spends-as start (record now { credit = c.save.new.self }) _ _ _ _ (spends-saved start now _ _ c.save.new.self turn.spends c.save.ensures.mode one c.save.ensures.early) (omega (arith, fewer)) (omega arith);
       in_time = turn.in_time;
       rest = skip-rest p d c.loop-i.i place.0 (to_z w32 c.loop-i.alpha-bits) _ place.1 low turn.rest;
       passed = passed-on p (d - 1) (to_z w32 c.loop-i.alpha-bits) c.loop-i.i c.loop-i.candidate turn.passed;
@@ -82,7 +82,7 @@ rest::search_rest-reply_with-requires g t c κs within =
           within.1,
           record {
             window = open-raised c.args.node.window (to_z w32 c.loop-i.alpha-bits) c.requires.node.window turn.low turn.high;
-            can = node-reply (g.G.Game.course c.args.game.now) _ _ _ c.args.node.depth c.args.level c.loop-i.i c.get-m.result c.requires.node.listed turn.spends.before c.get-m.ensures;
+            can = node-reply (g.G.Game.history c.args.game.now) _ _ _ c.args.node.depth c.args.level c.loop-i.i c.get-m.result c.requires.node.listed turn.spends.before c.get-m.ensures;
           },
         ),
       ),
@@ -90,9 +90,9 @@ rest::search_rest-reply_with-requires g t c κs within =
 
 pub rest::search_rest-returns-in_err-found-clause-spends : goal.rest::search_rest-returns-in_err-found-clause-spends
 rest::search_rest-returns-in_err-found-clause-spends g t c =
-    let at = moment_within g.G.Game.course g.G.Game.played g.C.Clock.readings g.C.Clock.last g.C.Clock.previous in
+    let at = moment_within g.G.Game.history g.G.Game.played g.C.Clock.readings g.C.Clock.last g.C.Clock.previous in
     let turn = c.loop-i.invariant in
-    let start = g.G.Game.course c.args.game.now in
+    let start = g.G.Game.history c.args.game.now in
     let p = position start in
     let d = c.args.node.depth in
     let same = turn.spends.before.game in
@@ -111,9 +111,9 @@ rest::search_rest-returns-in_err-found-clause-answers g t c =
 
 pub rest::search_rest-returns-then-found-child-clause-spends : goal.rest::search_rest-returns-then-found-child-clause-spends
 rest::search_rest-returns-then-found-child-clause-spends g t c =
-    let at = moment_within g.G.Game.course g.G.Game.played g.C.Clock.readings g.C.Clock.last g.C.Clock.previous in
+    let at = moment_within g.G.Game.history g.G.Game.played g.C.Clock.readings g.C.Clock.last g.C.Clock.previous in
     let turn = c.loop-i.invariant in
-    let start = g.G.Game.course c.args.game.now in
+    let start = g.G.Game.history c.args.game.now in
     let p = position start in
     let d = c.args.node.depth in
     let same = turn.spends.before.game in
@@ -131,7 +131,7 @@ rest::search_rest-returns-then-found-child-clause-spends g t c =
 pub rest::search_rest-returns-then-found-child-clause-answers : goal.rest::search_rest-returns-then-found-child-clause-answers
 rest::search_rest-returns-then-found-child-clause-answers g t c =
     let turn = c.loop-i.invariant in
-    let start = g.G.Game.course c.args.game.now in
+    let start = g.G.Game.history c.args.game.now in
     let p = position start in
     let d = c.args.node.depth in
     let same = turn.spends.before.game in
@@ -147,9 +147,9 @@ rest::search_rest-returns-then-found-child-clause-answers g t c =
 
 pub rest::search_rest-loop-i-preserved : goal.rest::search_rest-loop-i-preserved
 rest::search_rest-loop-i-preserved g t c =
-    let at = moment_within g.G.Game.course g.G.Game.played g.C.Clock.readings g.C.Clock.last g.C.Clock.previous in
+    let at = moment_within g.G.Game.history g.G.Game.played g.C.Clock.readings g.C.Clock.last g.C.Clock.previous in
     let turn = c.loop-i.invariant in
-    let start = g.G.Game.course c.args.game.now in
+    let start = g.G.Game.history c.args.game.now in
     let p = position start in
     let d = c.args.node.depth in
     let same = turn.spends.before.game in
@@ -172,9 +172,9 @@ rest::search_rest-loop-i-preserved g t c =
       high = raised-high _ _ _ _ turn.high under raised;
       rest = turn-rest _ _ _ _ _ _ _ (to_z w32 (of_z w32 c.max-alpha.result)) _ made under raised turn.rest;
       left = less _ _ _ _ (turn-left p d c.loop-i.i c.get-m.result c.args.places.hint here (or-false _ _ _ (sym c.hold.ensures ∙ c.if-hold.false))) turn.left;
-      spends = spends-to _ _ _ _ (g.G.Game.course later.new.game) (g.G.Game.played later.new.game) tried_then later.ensures.same later.ensures.count;
+      spends = spends-to _ _ _ _ (g.G.Game.history later.new.game) (g.G.Game.played later.new.game) tried_then later.ensures.same later.ensures.count;
       in_time = in_time-then _ _ _ _ _ turn.spends.time.deadline turn.in_time c.in_ok-found.ensures.answers.in_time;
-      passed = passed-here start (g.G.Game.course c.reply_with.new.game) (d - 1) _ _ _ tried_then.before.game later.ensures.passed;
+      passed = passed-here start (g.G.Game.history c.reply_with.new.game) (d - 1) _ _ _ tried_then.before.game later.ensures.passed;
       plays = turn-plays _ _ _ _ _ _ _ (to_z w32 (of_z w32 c.max-alpha.result)) _ _ _ made under raised turn.plays (omega (arith, tried.played, later.ensures.count));
     }
 

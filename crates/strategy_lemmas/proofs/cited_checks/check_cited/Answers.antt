@@ -1,5 +1,5 @@
 use Rattle.std.proofs.Common.{subst, [], rules, refl}
-use Rattle.hive_model.specs.Courses.{position}
+use Rattle.hive_model.specs.Histories.{position}
 use Rattle.certificate_walks.proofs.ItemLaws.{taking-is}
 use Rattle.certificate_walks.specs.Ends.{EndsItems}
 use Rattle.certificate_walks.proofs.EndLaws.{certificate-answers, certificate-counts, certificate-unread, checks-items, ends-unread}
@@ -30,7 +30,7 @@ returns-in-Some-clause-items g c =
     let part = taking-is cited_faults LeafFails BadIndex leaf-inner place-inner (cited_moment supply) c.in-Some.walked c.walk_answer.result begun after c.walk_answer.ensures c.in-Some.ensures.part in
     let ends : EndsItems cited_faults c.walk_answer.result after.taken c.answer_of.result (supply after.tokens.now) (supply c.answer_of.new.items) =
     subst (λ x. EndsItems cited_faults c.walk_answer.result after.taken c.answer_of.result (supply x) (supply c.answer_of.new.items)) (search rules) c.answer_of.ensures.items in
-    checks-items supply cited_faults (cited_checked (position (g.G.Game.course c.args.game.now)) claim.depth claim.best claim.value) c.walk_answer.result c.answer_of.result c.args.tokens.now begun.tokens.now after.tokens.now c.answer_of.new.items _ _ begun.taken after.taken
+    checks-items supply cited_faults (cited_checked (position (g.G.Game.history c.args.game.now)) claim.depth claim.best claim.value) c.walk_answer.result c.answer_of.result c.args.tokens.now begun.tokens.now after.tokens.now c.answer_of.new.items _ _ begun.taken after.taken
     c.new-walker.ensures.same_tokens c.new-walker.ensures.taken part ends (λ items e counts.
     let t = c.in-Some.ensures.told (cited_steps items 0 []) (search rules) in
     certificate-counts cite_rules cited_sight told after.taken (cited_seen told after.taken shown) (seen-tells told after.taken shown) Rest _ t.0 c.in-Some.walked c.walk_answer.result _ c.answer_of.result _ _ t.1 t.2 refl
@@ -47,7 +47,7 @@ returns-in-Some-clause-unread g c =
     let part = taking-is cited_faults LeafFails BadIndex leaf-inner place-inner (cited_moment supply) c.in-Some.walked c.walk_answer.result begun after c.walk_answer.ensures c.in-Some.ensures.part in
     let ends : EndsItems cited_faults c.walk_answer.result after.taken c.answer_of.result (supply after.tokens.now) (supply c.answer_of.new.items) =
     subst (λ x. EndsItems cited_faults c.walk_answer.result after.taken c.answer_of.result (supply x) (supply c.answer_of.new.items)) (search rules) c.answer_of.ensures.items in
-    ends-unread supply cited_faults (cited_checked (position (g.G.Game.course c.args.game.now)) claim.depth claim.best claim.value) c.walk_answer.result c.answer_of.result c.args.tokens.now begun.tokens.now after.tokens.now c.answer_of.new.items _ _ begun.taken after.taken
+    ends-unread supply cited_faults (cited_checked (position (g.G.Game.history c.args.game.now)) claim.depth claim.best claim.value) c.walk_answer.result c.answer_of.result c.args.tokens.now begun.tokens.now after.tokens.now c.answer_of.new.items _ _ begun.taken after.taken
     c.new-walker.ensures.same_tokens c.new-walker.ensures.taken part (λ items e counts.
     let t = c.in-Some.ensures.told (cited_steps items 0 []) (search rules) in
     certificate-unread cite_rules cited_sight told after.taken (cited_seen told after.taken shown) (seen-tells told after.taken shown) cited_faults (λ o h. h) refl Rest _ t.0 c.in-Some.walked c.walk_answer.result _ c.answer_of.result _ _ t.1 t.2 refl

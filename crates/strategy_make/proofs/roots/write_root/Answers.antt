@@ -1,6 +1,6 @@
 use Rattle.std.proofs.Common.{rules, ◌≡◌, length, ap, arith, ◌∙◌}
 use Rattle.hive_model.specs.Legal.{moves}
-use Rattle.hive_model.specs.Courses.{position}
+use Rattle.hive_model.specs.Histories.{position}
 use Rattle.search_laws.specs.Laws.{IsSmall}
 use Rattle.search_laws.proofs.Signs.{neg-is}
 use Rattle.search_laws.proofs.MinimaxLaws.{wider}
@@ -12,7 +12,7 @@ use Rattle.strategy_make.proofs.roots.write_root.Goals as goal
 
 pub returns-then-not-write_moves-clause-wrote : goal.returns-then-not-write_moves-clause-wrote
 returns-then-not-write_moves-clause-wrote g c =
-    let p = position (g.G.Game.course c.args.game.now) in
+    let p = position (g.G.Game.history c.args.game.now) in
     let e = c.args.depth in
     let k = c.args.place in
     let v = c.args.best.now.value in
@@ -24,7 +24,7 @@ write_child-requires-clause-can g c =
 
 pub returns-then-not-write_child-clause-wrote : goal.returns-then-not-write_child-clause-wrote
 returns-then-not-write_child-clause-wrote g c =
-    let start = g.G.Game.course c.args.game.now in
+    let start = g.G.Game.history c.args.game.now in
     let v = c.args.best.now.value in
     let small : IsSmall 1000100 v = wider 1000064 1000100 v (omega arith) c.requires.small in
     most-cut _ _ _ _ v c.write_moves.result c.write_child.result _ _ _ (search rules) (before-written (position start) c.args.depth _ v _ c.write_moves.result _ _ (one-less v c.requires.small) c.write_moves.ensures.wrote)
@@ -40,7 +40,7 @@ write_moves-requires-2-clause-replies g c =
 
 pub returns-then-not-write_child-2-clause-wrote : goal.returns-then-not-write_child-2-clause-wrote
 returns-then-not-write_child-2-clause-wrote g c =
-    let start = g.G.Game.course c.args.game.now in
+    let start = g.G.Game.history c.args.game.now in
     let v = c.args.best.now.value in
     let small : IsSmall 1000100 v = wider 1000064 1000100 v (omega arith) c.requires.small in
     let moved = c.write_child.ensures.before.game ∙ c.write_moves.ensures.before.game in
@@ -51,13 +51,13 @@ returns-then-not-write_child-2-clause-wrote g c =
 
 pub overflow_add-from : goal.overflow_add-from
 overflow_add-from g c =
-    let low = place-low (moves (position (g.G.Game.course c.args.game.now))) c.args.place c.args.best.now.best c.requires.place in
-    let all : c.level_len-count.result ≡ length (moves (position (g.G.Game.course c.args.game.now))) = c.level_len-count.ensures ∙ ap length c.requires.replies.listed in
+    let low = place-low (moves (position (g.G.Game.history c.args.game.now))) c.args.place c.args.best.now.best c.requires.place in
+    let all : c.level_len-count.result ≡ length (moves (position (g.G.Game.history c.args.game.now))) = c.level_len-count.ensures ∙ ap length c.requires.replies.listed in
     omega (arith, low, all)
 
 pub returns-clause-wrote : goal.returns-clause-wrote
 returns-clause-wrote g c =
-    let start = g.G.Game.course c.args.game.now in
+    let start = g.G.Game.history c.args.game.now in
     let p = position start in
     let e = c.args.depth in
     let k = c.args.place in

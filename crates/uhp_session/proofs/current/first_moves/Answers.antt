@@ -7,4 +7,4 @@ pub loop-i-preserved : goal.loop-i-preserved
 loop-i-preserved g c =
     let pushed : c.push.new.self ≡ c.loop-i.moves ++ c.move_at.result ∷ [] = search rules in
     pushed ∙ ap (λ (r : List Move). r ++ c.move_at.result ∷ []) c.loop-i.invariant
-    ∙ sym (taken_next (g.G.Game.course c.args.game.now).made c.loop-i.i c.move_at.result c.move_at.ensures)
+    ∙ sym (taken_next (g.G.Game.history c.args.game.now).made c.loop-i.i c.move_at.result c.move_at.ensures)

@@ -14,9 +14,9 @@ best_shared-requires-clause-workers g c κs within =
     let ms = c.args.moves.now in
     let ws = c.deref_mut.result.now in
     let taken = c.in_ok-searchers.ensures.taken in
-    let images = All-map (IsGameOf t ms c.args.depth) (λ w. g.G.Game.course w.game) ws (rw c.deref_mut.ensures.value c.in_ok-workers.ensures.games) in
+    let images = All-map (IsGameOf t ms c.args.depth) (λ w. g.G.Game.history w.game) ws (rw c.deref_mut.ensures.value c.in_ok-workers.ensures.games) in
     let some : 1 ≤ length ws = rw c.deref_mut.ensures.value (rw c.in_ok-workers.ensures.count (rw taken.count c.requires.team.workers)) in
-    let root = root-is t ms c.args.depth ws (λ w. g.G.Game.course w.game) some (rw c.deref_mut.ensures.value c.in_ok-workers.ensures.games) in
+    let root = root-is t ms c.args.depth ws (λ w. g.G.Game.history w.game) some (rw c.deref_mut.ensures.value c.in_ok-workers.ensures.games) in
     record {
       some = some;
       few = rw c.deref_mut.ensures.value (rw c.in_ok-workers.ensures.count (rw taken.count c.requires.team.few));
@@ -38,7 +38,7 @@ pub returns-clause-best : goal.returns-clause-best
 returns-clause-best g c =
     let ws = c.deref_mut.result.now in
     let some : 1 ≤ length ws = rw c.deref_mut.ensures.value (rw c.in_ok-workers.ensures.count (rw c.in_ok-searchers.ensures.taken.count c.requires.team.workers)) in
-    let root = root-is c.args.game_type c.args.moves.now c.args.depth ws (λ w. g.G.Game.course w.game) some (rw c.deref_mut.ensures.value c.in_ok-workers.ensures.games) in
+    let root = root-is c.args.game_type c.args.moves.now c.args.depth ws (λ w. g.G.Game.history w.game) some (rw c.deref_mut.ensures.value c.in_ok-workers.ensures.games) in
     subst (λ p. best p c.args.depth ≡ Some c.in_ok-found.found.best) root c.in_ok-found.ensures.first
 
 pub give_back-requires-clause-none : goal.give_back-requires-clause-none

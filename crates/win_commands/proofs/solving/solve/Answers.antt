@@ -8,8 +8,8 @@ use Rattle.win_commands.proofs.solving.solve.Goals as goal
 
 pub returns-in-Ok : goal.returns-in-Ok
 returns-in-Ok g c =
-    let course = g.G.Game.course c.in-Ok.game in record {
-      run = game_run (solution_of c.args.plies) c.tell_solution.result _ _ course (solution_text course.game_type course.made c.args.plies) c.in-Ok.ensures.game
+    let history = g.G.Game.history c.in-Ok.game in record {
+      run = game_run (solution_of c.args.plies) c.tell_solution.result _ _ history (solution_text history.game_type history.made c.args.plies) c.in-Ok.ensures.game
           (λ game end i. solution_text (end.kind i) (end.made i) c.args.plies) c.tell_solution.ensures.told;
       reads = search rules;
       writes = search rules;

@@ -12,4 +12,4 @@ returns-then-is_over g c = record {
 }
 
 pub returns : goal.returns
-returns g c = judges-as 4 4 _ _ c.judge_indices.result _ _ _ (claim-lines c.args.head (g.G.Game.course c.in-Ok.game) c.in-Ok.ensures.kind (c.in-Ok.ensures.made ∙ c.items.ensures) (sym c.is_over.ensures ∙ c.if-is_over.false)) c.judge_indices.ensures
+returns g c = judges-as 4 4 _ _ c.judge_indices.result _ _ _ (claim-lines c.args.head (g.G.Game.history c.in-Ok.game) c.in-Ok.ensures.kind (c.in-Ok.ensures.made ∙ c.items.ensures) (sym c.is_over.ensures ∙ c.if-is_over.false)) c.judge_indices.ensures

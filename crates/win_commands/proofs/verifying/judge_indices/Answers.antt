@@ -1,5 +1,5 @@
 use Rattle.std.proofs.Common.{ℕ, ◌+◌, ap, map, rules, subst, sym}
-use Rattle.hive_model.specs.Courses.{position}
+use Rattle.hive_model.specs.Histories.{position}
 use Rattle.certificate_walks.specs.Answers.{CountsRefused, StopsUnread}
 use Rattle.certificate_text.specs.Text.{index_in}
 use Rattle.win_solver.specs.Solution.{solved}
@@ -30,7 +30,7 @@ returns g c = record {
   unread = λ left told text r e.
       let before = c.new-indices.result in
       let after = c.check_solution-checked.new.indices in
-      let p = position (g.G.Game.course c.args.game.now) in
+      let p = position (g.G.Game.history c.args.game.now) in
       let items = map index_in left in
       let o = solved p c.args.plies p.side c.args.answer items in
       let begun : HasRead text (g.S.Source.rest before.source.now) before.reader.now (4 + before.lines) =

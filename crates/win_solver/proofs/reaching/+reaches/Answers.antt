@@ -5,7 +5,7 @@ use Rattle.std.proofs.lemmas.Int.{ints, to_z-of_z}
 use mir.Syntax.{w32}
 use Rattle.hive_model.specs.Legal.{moves}
 use Rattle.hive_model.specs.Minimax.{value}
-use Rattle.hive_model.specs.Courses.{position}
+use Rattle.hive_model.specs.Histories.{position}
 use Rattle.search_laws.proofs.NodeLaws.{node-listed, node-reply, reply-room, before-then}
 use Rattle.win_solver.specs.Asked.{CanBeAsked}
 use Rattle.search_laws.proofs.HintLaws.{here-in}
@@ -19,7 +19,7 @@ asked-again least asked = record { low = omega (arith, ints, asked.low, asked.hi
 pub first_reply-loop-i-init : goal.first_reply-loop-i-init
 first_reply-loop-i-init g t c = record {
   before = c.hinted_reply-hinted.ensures.before;
-  rest = some-reaches (position (g.G.Game.course c.args.game.now)) c.args.depth _ c.requires.node.inner;
+  rest = some-reaches (position (g.G.Game.history c.args.game.now)) c.args.depth _ c.requires.node.inner;
 }
 
 pub first_reply-reply_reaches-requires : goal.first_reply-reply_reaches-requires
@@ -29,7 +29,7 @@ first_reply-reply_reaches-requires g t c κs within = (
     within,
     (
       asked-again _ c.requires.asked,
-      node-reply (g.G.Game.course c.args.game.now) _ _ _ c.args.depth c.args.level c.loop-i.i c.get-m.result c.requires.node c.loop-i.invariant.before c.get-m.ensures,
+      node-reply (g.G.Game.history c.args.game.now) _ _ _ c.args.depth c.args.level c.loop-i.i c.get-m.result c.requires.node c.loop-i.invariant.before c.get-m.ensures,
     ),
   ),
 )
@@ -37,7 +37,7 @@ first_reply-reply_reaches-requires g t c κs within = (
 pub first_reply-returns-then-reply_reaches-clause-found : goal.first_reply-returns-then-reply_reaches-clause-found
 first_reply-returns-then-reply_reaches-clause-found g t c =
     let turn = c.loop-i.invariant in
-    let start = g.G.Game.course c.args.game.now in
+    let start = g.G.Game.history c.args.game.now in
     let number : to_z w32 (of_z w32 c.args.least) ≡ c.args.least = to_z-of_z w32 c.args.least (search rules) in
     let here : slice_get (moves (position start)) c.loop-i.i ≡ Some c.get-m.result = here-in _ _ _ _ _ _ turn.before.stack c.requires.node.listed c.get-m.ensures in
     let met = reply-is start _ (c.args.depth - 1) _ c.get-m.result c.reply_reaches.result turn.before.game c.reply_reaches.ensures.reached in
@@ -47,7 +47,7 @@ first_reply-returns-then-reply_reaches-clause-found g t c =
 pub first_reply-loop-i-preserved : goal.first_reply-loop-i-preserved
 first_reply-loop-i-preserved g t c =
     let turn = c.loop-i.invariant in
-    let start = g.G.Game.course c.args.game.now in
+    let start = g.G.Game.history c.args.game.now in
     let here : slice_get (moves (position start)) c.loop-i.i ≡ Some c.get-m.result = here-in _ _ _ _ _ _ turn.before.stack c.requires.node.listed c.get-m.ensures in
     let met = reply-is start _ (c.args.depth - 1) _ c.get-m.result c.reply_reaches.result turn.before.game c.reply_reaches.ensures.reached in
     record {
@@ -62,14 +62,14 @@ hinted_reply-reply_reaches-requires g t c κs within = (
     within,
     (
       asked-again _ c.requires.asked,
-      node-reply (g.G.Game.course c.args.game.now) _ _ _ c.args.depth c.args.level c.in_ok-place.place c.get-m.result c.requires.node (record { game = refl; stack = refl }) c.get-m.ensures,
+      node-reply (g.G.Game.history c.args.game.now) _ _ _ c.args.depth c.args.level c.in_ok-place.place c.get-m.result c.requires.node (record { game = refl; stack = refl }) c.get-m.ensures,
     ),
   ),
 )
 
 pub hinted_reply-returns-then-reply_reaches-clause-found : goal.hinted_reply-returns-then-reply_reaches-clause-found
 hinted_reply-returns-then-reply_reaches-clause-found g t c =
-    let start = g.G.Game.course c.args.game.now in
+    let start = g.G.Game.history c.args.game.now in
     let number : to_z w32 (of_z w32 c.args.least) ≡ c.args.least = to_z-of_z w32 c.args.least (search rules) in
     let here : slice_get (moves (position start)) c.in_ok-place.place ≡ Some c.get-m.result = sym (ap (λ ms. slice_get ms c.in_ok-place.place) c.requires.node.listed) ∙ c.get-m.ensures in
     λ _.
@@ -93,7 +93,7 @@ reply_reaches-reaches-answered-requires g t c κs within =
 
 pub find_reply-first_reply-reply-requires : goal.find_reply-first_reply-reply-requires
 find_reply-first_reply-reply-requires g t c κs within =
-    let start = g.G.Game.course c.args.game.now in (
+    let start = g.G.Game.history c.args.game.now in (
       search rules,
       (
         within,

@@ -3,7 +3,7 @@ use Rattle.std.specs.Prelude.{int_le}
 use Rattle.std.specs.List.{list_any}
 use Rattle.hive_model.specs.Legal.{moves}
 use Rattle.hive_model.specs.Minimax.{value}
-use Rattle.hive_model.specs.Courses.{position}
+use Rattle.hive_model.specs.Histories.{position}
 use Rattle.search_laws.specs.Nodes.{AreAsBefore}
 use Rattle.win_solver.proofs.ReachLaws.{reply_reaches}
 use Rattle.win_solver.proofs.reaching.+reaches.Given as goal
@@ -28,8 +28,8 @@ decreases-hinted_reply g l = 6 * l.depth + 1
 
 abbrev pub invariant-first_reply-loop-i : goal.invariant-first_reply-loop-i
 invariant-first_reply-loop-i g l =
-    let p = position (g.G.Game.course l.fn.game) in
+    let p = position (g.G.Game.history l.fn.game) in
     record {
-      before : AreAsBefore (g.G.Game.course l.fn.game) (g.G.Game.course l.game) l.fn.space.stack l.space.stack;
+      before : AreAsBefore (g.G.Game.history l.fn.game) (g.G.Game.history l.game) l.fn.space.stack l.space.stack;
       rest : list_any (reply_reaches p (l.depth - 1) l.least) (drop l.i (moves p)) ≡ int_le l.least (value p l.depth);
     }

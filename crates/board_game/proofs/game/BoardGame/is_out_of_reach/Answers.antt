@@ -1,14 +1,14 @@
 use Rattle.std.proofs.Common.{◌≤ℤ◌, neg_ℤ, rules, w32, sym, ◌∙◌, ap, subst}
 use Rattle.std.proofs.lemmas.Int.{to_z-of_z}
 use Rattle.hive_model.specs.declared.places.Move.{Move}
-use Rattle.hive_model.specs.Courses.{position}
+use Rattle.hive_model.specs.Histories.{position}
 use Rattle.hive_model.specs.Games.{replay}
 use Rattle.hive_model.specs.Legal.{moves}
 use Rattle.hive_model.specs.Lists.{IsOn}
 use Rattle.hive_model.specs.Minimax.{value}
 use Rattle.hive_model.specs.Pieces.{other_side}
 use Rattle.hive_model.specs.Positions.{Position, opening}
-use Rattle.board_game.specs.Replayed.{PlayedCourse, CanBeTaken}
+use Rattle.board_game.specs.Replayed.{PlayedHistory, CanBeTaken}
 use Rattle.board_game.proofs.AskLaws.{may_go, may_ask, then_is, turned_is}
 use Rattle.board_game.proofs.ReachLaws.{goes_so, said_of}
 use Rattle.board_game.proofs.game.BoardGame.is_out_of_reach.Goals as goal
@@ -36,7 +36,7 @@ returns-clause-futile g c = λ out.
     let b = g.B.Board.stacks i.board in
     let p = replay (opening i.game_type) i.made.items in
     let may = may_go i.game_type b i.made.items i.from.items i.spare i.count c.args.self.now c.args.m.now c.self.invariant.0 c.self.view_is c.requires c.in-To.piece c.in-To.place c.in-To.is in
-    let legal = subst (λ (u : PlayedCourse). IsOn (moves (position u.course)) c.args.m.now) (sym c.self.view_is) c.requires in
+    let legal = subst (λ (u : PlayedHistory). IsOn (moves (position u.history)) c.args.m.now) (sym c.self.view_is) c.requires in
     let listed = subst (λ (m : Move). IsOn (moves p) m) c.in-To.is legal in
     let side = turned_is i.game_type i.made.items c.other-side.result c.len.result (c.other-side.ensures ∙ ap other_side c.side_after.ensures) (c.len.ensures ∙ i.made.ok.0) in
     let goes = goes_so p b c.in-To.piece c.in-To.place (sym c.self.invariant.0.board_is) may listed in

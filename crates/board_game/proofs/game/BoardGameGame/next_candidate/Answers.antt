@@ -1,6 +1,6 @@
 use Rattle.std.proofs.Common.{w32, ◌≤ℤ◌, refl, sym, ◌∙◌, ap, subst, to_z, of_z}
 use Rattle.std.specs.Prelude.{slice_get}
-use Rattle.hive_model.specs.Courses.{position}
+use Rattle.hive_model.specs.Histories.{position}
 use Rattle.hive_model.specs.Legal.{moves}
 use Rattle.hive_model.specs.Lists.{IsOn}
 use Rattle.hive_model.specs.Minimax.{reply_value}
@@ -15,7 +15,7 @@ is_futile-requires g c =
 
 pub loop-at-preserved : goal.loop-at-preserved
 loop-at-preserved g c =
-    let k = c.args.self.now.course in
+    let k = c.args.self.now.history in
     let there = ap (λ ms. slice_get ms c.loop-at.at) (sym c.requires.listed) ∙ c.get.ensures in
     let few = subst (λ u. reply_value (position u) 0 c.get.result ≤ℤ to_z w32 (of_z w32 c.args.alpha)) c.loop-at.invariant.same (c.is_futile.ensures.futile c.if-not-is_futile.false) in
     record {

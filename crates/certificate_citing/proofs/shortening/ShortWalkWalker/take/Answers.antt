@@ -1,7 +1,7 @@
 use Rattle.std.proofs.Common.{rules, ◌≡◌, ℤ, None, refl, sym, subst, arith, ◌∙◌, to_z, of_z}
 use Rattle.std.proofs.lemmas.Int.{ints}
 use mir.Syntax.{w32}
-use Rattle.hive_model.specs.Courses.{position}
+use Rattle.hive_model.specs.Histories.{position}
 use Rattle.hive_model.specs.Keys.{key}
 use Rattle.certificate_walks.specs.Parts.{EndsHere}
 use Rattle.strategy_lemmas.specs.Lemmas.{server}
@@ -14,7 +14,7 @@ use Rattle.certificate_citing.proofs.shortening.ShortWalkWalker.take.Goals as go
 
 pub returns-in-Some-clause-told : goal.returns-in-Some-clause-told
 returns-in-Some-clause-told g c =
-    let p = position (g.G.Game.course c.args.game.now) in
+    let p = position (g.G.Game.history c.args.game.now) in
     let x = c.args.least in
     let same : to_z w32 (of_z w32 x) ≡ x = omega (arith, ints, c.requires.small.low, c.requires.small.high) in
     let before = short_seen (g.I.Items.supply c.args.self.now.indices.now).left c.args.self.now.draft.now in
@@ -38,7 +38,7 @@ returns-in-Some-clause-part g c =
 
 pub returns-else-not-add-clause-told : goal.returns-else-not-add-clause-told
 returns-else-not-add-clause-told g c =
-    let p = position (g.G.Game.course c.args.game.now) in
+    let p = position (g.G.Game.history c.args.game.now) in
     let d = c.args.depth in
     let x = c.args.least in
     let draft = c.args.self.now.draft.now in
@@ -50,7 +50,7 @@ returns-else-not-add-clause-told g c =
 
 pub returns-then-not-add-clause-told : goal.returns-then-not-add-clause-told
 returns-then-not-add-clause-told g c =
-    let p = position (g.G.Game.course c.args.game.now) in
+    let p = position (g.G.Game.history c.args.game.now) in
     let d = c.args.depth in
     let x = c.args.least in
     let draft = c.args.self.now.draft.now in
@@ -61,7 +61,7 @@ returns-then-not-add-clause-told g c =
 
 pub returns-in-Failed-clause-told : goal.returns-in-Failed-clause-told
 returns-in-Failed-clause-told g c =
-    let p = position (g.G.Game.course c.args.game.now) in
+    let p = position (g.G.Game.history c.args.game.now) in
     let d = c.args.depth in
     let x = c.args.least in
     let draft = c.args.self.now.draft.now in
@@ -72,7 +72,7 @@ returns-in-Failed-clause-told g c =
 
 pub returns-in-Full-clause-told : goal.returns-in-Full-clause-told
 returns-in-Full-clause-told g c =
-    let p = position (g.G.Game.course c.args.game.now) in
+    let p = position (g.G.Game.history c.args.game.now) in
     let d = c.args.depth in
     let x = c.args.least in
     let draft = c.args.self.now.draft.now in

@@ -37,5 +37,5 @@ returns-clause-keeps g c =
       to_z-of_z w32 c.number_without-number.result (search rules) ∙ c.number_without-number.ensures,
       c.removed.ensures.marks,
       c.top_removed.ensures,
-      high_shrunk b h.before c.args.piece c.args.place c.is_board.ensures h.sound h.made c.self.inside.high c.self.inside.high high,
+      high_shrunk b h.before c.args.piece c.args.place c.lemma_board.ensures h.sound h.made c.self.inside.high c.self.inside.high high,
     )

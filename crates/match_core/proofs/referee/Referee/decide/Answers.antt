@@ -1,6 +1,6 @@
 use Rattle.std.proofs.Common.{rules, ◌≡◌, ◌≤◌, [], ◌∷◌, ◌++◌, length, ◌∙◌, arith}
 use Rattle.std.specs.Prelude.{if◌then◌else◌}
-use Rattle.hive_model.specs.Courses.{position}
+use Rattle.hive_model.specs.Histories.{position}
 use Rattle.hive_model.specs.Keys.{key}
 use Rattle.match_core.specs.Keeps.{IsTelling}
 use Rattle.match_core.proofs.Sees.{telling, before_few, noted}
@@ -8,14 +8,14 @@ use Rattle.match_core.proofs.referee.Referee.decide.Goals as goal
 
 pub note-requires : goal.note-requires
 note-requires g c =
-    let game = g.G.Game.course c.self.inside.game in
+    let game = g.G.Game.history c.self.inside.game in
     let told : IsTelling c.self.inside.stage = search rules in
     let few : length game.made ≤ 1000 = search rules in
     before_few c.self.inside.seen game (telling c.self.inside.stage c.self.inside.seen game told c.self.invariant.sees) few
 
 pub invariant_of-self-2 : goal.invariant_of-self-2
 invariant_of-self-2 g c =
-    let game = g.G.Game.course c.self.inside.game in
+    let game = g.G.Game.history c.self.inside.game in
     let i = c.self.invariant in
     let told : IsTelling c.self.inside.stage = search rules in
     let pushed : c.note.new.self.keys ≡ (if c.self.inside.seen.repetition then c.self.inside.seen.keys ++ key (position game) ∷ [] else c.self.inside.seen.keys) = search rules in

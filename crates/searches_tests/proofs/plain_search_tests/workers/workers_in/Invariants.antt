@@ -6,6 +6,6 @@ use Rattle.searches_tests.proofs.plain_search_tests.workers.workers_in.Given as 
 abbrev pub invariant-loop-made : goal.invariant-loop-made
 invariant-loop-made l = record {
   count : length l.workers.items ≡ l._made;
-  games : All (λ w. IsGameOf l.fn.parsed.game_type l.fn.parsed.moves l.fn.depth w.game.course) l.workers.items;
+  games : All (λ w. IsGameOf l.fn.parsed.game_type l.fn.parsed.moves l.fn.depth w.game.history) l.workers.items;
   searchers : All (λ w. l.fn.depth ≤ w.searcher) l.workers.items;
 }

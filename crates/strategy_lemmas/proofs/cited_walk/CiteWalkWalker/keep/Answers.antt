@@ -1,7 +1,7 @@
 use Rattle.std.proofs.Common.{◌≡◌, sym, subst, arith, to_z, of_z}
 use Rattle.std.proofs.lemmas.Int.{ints}
 use mir.Syntax.{w32}
-use Rattle.hive_model.specs.Courses.{position}
+use Rattle.hive_model.specs.Histories.{position}
 use Rattle.hive_model.specs.Keys.{key}
 use Rattle.strategy_lemmas.specs.Lemmas.{AreTrue, with_lemma}
 use Rattle.strategy_lemmas.proofs.CitedLaws.{keeps-true-lemmas}
@@ -10,7 +10,7 @@ use Rattle.strategy_lemmas.proofs.cited_walk.CiteWalkWalker.keep.Goals as goal
 
 pub returns-clause-true_ : goal.returns-clause-true_
 returns-clause-true_ g c =
-    let p = position (g.G.Game.course c.args.game.now) in
+    let p = position (g.G.Game.history c.args.game.now) in
     let x = c.args.least in
     let before = c.args.self.now.lemmas.now in
     let same : to_z w32 (of_z w32 x) ≡ x = omega (arith, ints, c.requires.small.low, c.requires.small.high) in

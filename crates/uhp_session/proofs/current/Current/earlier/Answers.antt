@@ -6,7 +6,7 @@ use Rattle.uhp_session.proofs.current.Current.earlier.Goals as goal
 
 pub begin-requires-clause-game : goal.begin-requires-clause-game
 begin-requires-clause-game g c =
-    let course = g.G.Game.course c.self.inside.game in
-    let items : c.items.result.now ≡ take (c.plies.result - c.args.plies) (g.G.Game.course c.self.inside.game).made = search rules in
+    let history = g.G.Game.history c.self.inside.game in
+    let items : c.items.result.now ≡ take (c.plies.result - c.args.plies) (g.G.Game.history c.self.inside.game).made = search rules in
     subst (λ t. IsGame t c.items.result.now) (sym c.game_type.ensures)
-    (subst (λ ms. IsGame course.game_type ms) (sym items) (legal_part (opening course.game_type) course.made (c.plies.result - c.args.plies) c.is_sound.ensures.game))
+    (subst (λ ms. IsGame history.game_type ms) (sym items) (legal_part (opening history.game_type) history.made (c.plies.result - c.args.plies) c.lemma_sound.ensures.game))

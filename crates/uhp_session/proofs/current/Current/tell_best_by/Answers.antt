@@ -29,27 +29,27 @@ over_same b a kind made on = ap is_over (reached_same b a kind made) ∙ on
 
 pub best_by-requires-clause-game : goal.best_by-requires-clause-game
 best_by-requires-clause-game g c κs within =
-    let course = g.G.Game.course c.self.inside.game in
-    let all = listed_all c.items-made.result.now c.in_ok-moves.moves course.made c.plies.result c.items-made.ensures c.in_ok-moves.ensures c.plies.ensures.plies in
-    game_same c.game_type-game_type.result course.game_type c.items-made.result.now course.made c.game_type-game_type.ensures all c.is_sound.ensures.game
+    let history = g.G.Game.history c.self.inside.game in
+    let all = listed_all c.items-made.result.now c.in_ok-moves.moves history.made c.plies.result c.items-made.ensures c.in_ok-moves.ensures c.plies.ensures.plies in
+    game_same c.game_type-game_type.result history.game_type c.items-made.result.now history.made c.game_type-game_type.ensures all c.lemma_sound.ensures.game
 
 pub best_by-requires-clause-short : goal.best_by-requires-clause-short
 best_by-requires-clause-short g c κs within =
-    let course = g.G.Game.course c.self.inside.game in
-    let all = listed_all c.items-made.result.now c.in_ok-moves.moves course.made c.plies.result c.items-made.ensures c.in_ok-moves.ensures c.plies.ensures.plies in
+    let history = g.G.Game.history c.self.inside.game in
+    let all = listed_all c.items-made.result.now c.in_ok-moves.moves history.made c.plies.result c.items-made.ensures c.in_ok-moves.ensures c.plies.ensures.plies in
     subst (λ (ms : List Move). length ms ≤ 5000) (sym all) c.self.invariant.1
 
 pub best_by-requires-clause-goes_on : goal.best_by-requires-clause-goes_on
 best_by-requires-clause-goes_on g c κs within =
     let told : CurrentGame = record { game_type = c.game_type-game_type.result; made = c.items-made.result.now; repetition = c.args.self.now.repetition } in
-    let course = g.G.Game.course c.self.inside.game in
-    let all = listed_all c.items-made.result.now c.in_ok-moves.moves course.made c.plies.result c.items-made.ensures c.in_ok-moves.ensures c.plies.ensures.plies in
+    let history = g.G.Game.history c.self.inside.game in
+    let all = listed_all c.items-made.result.now c.in_ok-moves.moves history.made c.plies.result c.items-made.ensures c.in_ok-moves.ensures c.plies.ensures.plies in
     over_same told c.args.self.now (c.game_type-game_type.ensures ∙ ap (λ (x : CurrentGame). x.game_type) c.self.view_is) (all ∙ ap (λ (x : CurrentGame). x.made) c.self.view_is) c.requires.goes_on
 
 pub tell_move-requires : goal.tell_move-requires
 tell_move-requires g c =
     let told : CurrentGame = record { game_type = c.game_type-game_type.result; made = c.items-made.result.now; repetition = c.args.self.now.repetition } in
-    let course = g.G.Game.course c.self.inside.game in
-    let all = listed_all c.items-made.result.now c.in_ok-moves.moves course.made c.plies.result c.items-made.ensures c.in_ok-moves.ensures c.plies.ensures.plies in
+    let history = g.G.Game.history c.self.inside.game in
+    let all = listed_all c.items-made.result.now c.in_ok-moves.moves history.made c.plies.result c.items-made.ensures c.in_ok-moves.ensures c.plies.ensures.plies in
     on_same told c.args.self.now c.in_ok-found.found (c.game_type-game_type.ensures ∙ ap (λ (x : CurrentGame). x.game_type) c.self.view_is) (all ∙ ap (λ (x : CurrentGame). x.made) c.self.view_is)
     (best_on (reached told) c.args.depth c.in_ok-found.found c.in_ok-found.ensures.best)

@@ -1,7 +1,0 @@
-use Rattle.std.proofs.Common.{sym, subst}
-use Rattle.cut_keeper.specs.Keeping.{Keeps}
-use Rattle.leaf_worth.specs.Bases.{Found}
-use Rattle.leaf_worth.proofs.base.Base.held.Goals as goal
-
-pub new-requires : goal.new-requires
-new-requires g c = subst (λ (f : Found). Keeps (g.B.Board.stacks c.args.board.now) f.keeper) (sym c.self.view_is) c.requires
