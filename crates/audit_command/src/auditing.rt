@@ -26,7 +26,7 @@ ghost use Rattle.audit_command.specs.Audit.{
 };
 
 use crate::run::{Halt, run_audit};
-use audit_core::{Auditor, AuditPlan};
+use audit_core::{AuditPlan, Auditor};
 use command_runs::{Status, end_with};
 use hive_model::Game;
 use io_edge::{Sink, Spawner, StartFault};

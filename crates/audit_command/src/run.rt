@@ -6,7 +6,7 @@ ghost use Rattle.audit_command.specs.Wires.{TookLimit, wire};
 ghost use Rattle.audit_command.specs.Runs.{RanOver, unread};
 
 use crate::turns::{Turned, turn};
-use audit_core::{Auditor, Fault, AuditPlan};
+use audit_core::{AuditPlan, Auditor, Fault};
 use hive_model::Game;
 use io_edge::Link;
 use line_feed::LineReader;

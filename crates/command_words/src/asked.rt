@@ -25,9 +25,9 @@ ghost use Rattle.command_words.specs.Words.{
 };
 
 use crate::audits::{AuditAsked, audit_care, audit_of};
-use crate::engine_limits::EngineLimits;
 use crate::counted::count_of;
 use crate::cups::{cup_care, cup_of};
+use crate::engine_limits::EngineLimits;
 use crate::grown::growth_of;
 use crate::matched::{match_care, match_of};
 use crate::name::{Name, named};

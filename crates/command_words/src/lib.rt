@@ -19,8 +19,8 @@ mod tournaments;
 
 pub use asked::{Asked, asked_of, care_of};
 pub use audits::{AuditAsked, audited_of};
-pub use engine_limits::EngineLimits;
 pub use cups::engines_of;
+pub use engine_limits::EngineLimits;
 pub use laws::words_have_one_answer;
 pub use matched::{Programs, programs_of};
 pub use name::Name;

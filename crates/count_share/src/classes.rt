@@ -73,8 +73,8 @@ fn key_after<G: Game>(game: &mut G, m: Move) -> Key
     requires legal { IsOn (moves (position (G.history game.old))) m }
     requires spare { 1 ≤ (G.history game.old).spare }
     ensures key { result ≡ key (after (position (G.history game.old)) m) }
-    ensures goes_on
-        { IsGame (G.history game.old).game_type (with_move (G.history game.old) m).made }
+    ensures goes_on { IsGame (G.history game.old).game_type
+        (with_move (G.history game.old) m).made }
     ensures short { length (G.history game.old).made + 1 ≤ 5064 }
     ensures game { G.history game.new ≡ G.history game.old }
 {

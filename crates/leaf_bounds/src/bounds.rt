@@ -39,10 +39,7 @@ use leaf_worth::BoardWithout;
 
 /// What one more neighbour of the side's queen counts, at most 40. There is no answer if she has
 /// five or six.
-#[tactic(auto, using(
-    hive_model::proofs::PlaceLemmas::wider,
-    hive_model::proofs::PlaceLemmas::wider_on_board
-))]
+#[tactic(auto, using(hive_model::proofs::PlaceLemmas::wider, hive_model::proofs::PlaceLemmas::wider_on_board))]
 fn queen_gain<B: Board>(board: &B, side: Colour) -> Option<u32>
     ensures gain { IfSome result (λ g. g ≡ queen_gain (B.stacks board.now) side) }
     ensures most { IfSome result (λ g. g ≤ 40) }
@@ -115,10 +112,7 @@ fn are_apart(from: Place, to: Place) -> bool
 
 /// Whether a piece that is put on the place adds no neighbour to the side's queen. Then it is
 /// occupied, or it is no neighbour of hers.
-#[tactic(auto, using(
-    hive_model::proofs::PlaceLemmas::wider,
-    hive_model::proofs::PlaceLemmas::wider_on_board
-))]
+#[tactic(auto, using(hive_model::proofs::PlaceLemmas::wider, hive_model::proofs::PlaceLemmas::wider_on_board))]
 pub fn is_afar<B: Board>(board: &B, side: Colour, place: Place) -> bool
     ensures { IsTrue result → IsAfar (B.stacks board.now) side place }
 {

@@ -76,10 +76,7 @@ fn are_apart(from: Place, to: Place) -> bool
 }
 
 /// Whether the side's queen is in hand, or not on a neighbour of the place.
-#[tactic(auto, using(
-    hive_model::proofs::PlaceLemmas::wider,
-    hive_model::proofs::PlaceLemmas::wider_on_board
-))]
+#[tactic(auto, using(hive_model::proofs::PlaceLemmas::wider, hive_model::proofs::PlaceLemmas::wider_on_board))]
 fn is_apart<B: Board>(board: &B, side: Colour, place: Place) -> bool
     ensures { IsTrue result → IsApart (B.stacks board.now) side place }
 {
@@ -91,10 +88,7 @@ fn is_apart<B: Board>(board: &B, side: Colour, place: Place) -> bool
 
 /// Whether the place is quiet for the side: the side may place there, and the place is beside two
 /// places that touch and beside no queen.
-#[tactic(auto, using(
-    hive_model::proofs::PlaceLemmas::wider,
-    hive_model::proofs::PlaceLemmas::wider_on_board
-))]
+#[tactic(auto, using(hive_model::proofs::PlaceLemmas::wider, hive_model::proofs::PlaceLemmas::wider_on_board))]
 pub fn is_quiet<B: Board>(board: &B, side: Colour, place: Place) -> bool
     ensures { IsTrue result → IsQuiet (B.stacks board.now) side place }
 {

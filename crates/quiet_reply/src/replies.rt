@@ -48,10 +48,7 @@ fn any_brought<B: Board>(board: &B, turn: &Turn) -> Option<Piece>
 }
 
 /// Whether the side's queen is in hand or has an empty neighbour.
-#[tactic(auto, using(
-    hive_model::proofs::PlaceLemmas::wider,
-    hive_model::proofs::PlaceLemmas::wider_on_board
-))]
+#[tactic(auto, using(hive_model::proofs::PlaceLemmas::wider, hive_model::proofs::PlaceLemmas::wider_on_board))]
 fn is_open<B: Board>(board: &B, side: Colour) -> bool
     ensures { IsTrue result → is_surrounded (B.stacks board.now) side ≡ false }
 {

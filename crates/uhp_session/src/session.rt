@@ -100,11 +100,7 @@ impl<G: Game + Send + Drop> Session<G> {
     /// were played, an unknown option, and a value out of range. A refusal is a line that begins
     /// with `err ` or `invalidmove `, and changes nothing. If memory runs out, the session is as
     /// before.
-    #[tactic(auto, unfolding(
-        crate::specs::Answers::reply,
-        crate::specs::Answers::next,
-        crate::specs::Searches::asks
-    ))]
+    #[tactic(auto, unfolding(crate::specs::Answers::reply, crate::specs::Answers::next, crate::specs::Searches::asks))]
     pub fn command<R: Threads + Sync, C: Clock, T: Gate + Sync>(
         &mut self,
         rt: &R,
@@ -180,11 +176,7 @@ impl<G: Game + Send + Drop> Session<G> {
     }
 
     /// Answers a command that asks for no timed search.
-    #[tactic(auto, using(
-        crate::proofs::ReplyLaws::get_keeps,
-        crate::proofs::ReplyLaws::list_keeps,
-        crate::proofs::ReplyLaws::best_keeps
-    ))]
+    #[tactic(auto, using(crate::proofs::ReplyLaws::get_keeps, crate::proofs::ReplyLaws::list_keeps, crate::proofs::ReplyLaws::best_keeps))]
     fn perform_at_once<R: Threads + Sync, T: Gate + Sync>(
         &mut self,
         rt: &R,
