@@ -53,7 +53,7 @@ def free_ports(count: int) -> list[int]:
     return ports
 
 
-def wait_until(is_so, what: str, seconds: float = 30) -> None:
+def wait_until(is_so, what: str, seconds: float = 120) -> None:
     """Waits until a test holds, or fails."""
     end = time.monotonic() + seconds
     while not is_so():

@@ -119,7 +119,7 @@ class Scale(support.Case):
     def run_recipe(self, name: str, status: int = 0) -> str:
         """What a recipe writes, which ends with this status."""
         started = self.start(name)
-        said, _ = started.communicate(timeout=100)
+        said, _ = started.communicate(timeout=300)
         self.assertEqual(started.returncode, status, f"{name}: status")
         return said
 
@@ -133,7 +133,7 @@ class Scale(support.Case):
 
     def end(self, started: subprocess.Popen) -> int:
         (self.place / "pace").unlink(missing_ok=True)
-        started.communicate(timeout=100)
+        started.communicate(timeout=300)
         return started.returncode
 
     def check_record(self, text: str) -> None:
