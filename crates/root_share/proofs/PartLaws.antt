@@ -59,8 +59,8 @@ have-one history played work from seat later (x ∷ []) d w found one at answer 
 }
 
 inner-of : {G T : Type 0} (history : G → History) (work : RootWork G T) (from : ℕ) (seat : Seat (Unit {0}) Known) (workers : List (Worker G)) → MayRun history work from seat workers → IsInner seat.me.0.root work.depth
-inner-of course work from seat [] may = let some = may.some in absurd (omega (arith, some))
-inner-of course work from seat (w ∷ ws) may = let first = may.ready 0 w may.some in first.inner
+inner-of history work from seat [] may = let some = may.some in absurd (omega (arith, some))
+inner-of history work from seat (w ∷ ws) may = let first = may.ready 0 w may.some in first.inner
 
 -- two halves that have run make a whole that has
 pub have-both : {G T : Type 0} (history : G → History) (played : G → ℕ) (work : RootWork G T) (from up : ℕ) (seat one one2 other other2 later : Seat (Unit {0}) Known)
@@ -74,7 +74,7 @@ have-both {G = G} history played work from up seat one one2 other other2 later w
     let long : length workers ≡ length front + length back = rw cut (length-append front back) in
     record {
       knows = record { seated = seated; root = root ∙ x.knows.root ∙ same; depth = agreed ∙ x.knows.depth };
-      answer = rw better (answer-both seat.me.0.root work.depth _ _ _ _ _ (inner-of course work from seat workers may) (rw same at x.answer) (rw same2 at y.answer)
+      answer = rw better (answer-both seat.me.0.root work.depth _ _ _ _ _ (inner-of history work from seat workers may) (rw same at x.answer) (rw same2 at y.answer)
           (λ i mine. halves-of from up (length front) (length back) work.parts i at (rw long at mine)));
       kept = record {
         games = rw (cut, map-append (λ w. history w.game) front back, map-append (λ w. history w.game) front2 back2, x.kept.games, y.kept.games) refl;
