@@ -15,12 +15,13 @@ import cluster
 import support
 from cluster import Cluster, wait_until
 from outcomes import standings
+from ssh_server import SSHD, SshServer
 from support import PROGRAM, TOP, text_of
 
 PAGE = TOP / "docs/AT_SCALE.md"
 BLOCK = re.compile(r"^```sh\n(.*?)^```$", re.MULTILINE | re.DOTALL)
 # the recipes of the page in their order
-NAMES = ["nodes", "nodes_again", "parts", "array", "parallel", "table"]
+NAMES = ["nodes", "nodes_again", "parts", "array", "parallel", "ssh", "table"]
 NAMES += ["audit_array", "audit_parallel", "audit_sum"]
 NAMES += ["count_array", "count_parallel", "count_sum"]
 # an engine whose environment tells nobody of it, as on a machine of its own, and that looks deeper
@@ -71,6 +72,7 @@ class Scale(support.Case):
     def setUp(self) -> None:
         """A folder in which the recipes run, and what one tournament writes here."""
         self.place = self.folder()
+        self.environment = dict(self.cluster.environment)
         (self.place / "hive").symlink_to(PROGRAM)
         self.write_engine(ENGINE)
         openings = [self.grown(seed, 6 + seed % 7)["game"] for seed in range(1, 5)]
@@ -110,7 +112,7 @@ class Scale(support.Case):
         streams["stderr"] = subprocess.DEVNULL
         words = ["bash", "-c", recipes()[name]]
         started = subprocess.Popen(
-            words, cwd=self.place, env=self.cluster.environment, text=True, **streams
+            words, cwd=self.place, env=self.environment, text=True, **streams
         )
         self.addCleanup(started.stdout.close)
         self.addCleanup(started.kill)
@@ -123,11 +125,11 @@ class Scale(support.Case):
         self.assertEqual(started.returncode, status, f"{name}: status")
         return said
 
-    def start_paced(self, name: str, record: str) -> subprocess.Popen:
-        """A run of a recipe whose games take a while, once some of them are written."""
+    def start_paced(self, name: str, record: str, lines: int = 4) -> subprocess.Popen:
+        """A run of a recipe whose games take a while, once so many of their lines are written."""
         (self.place / "pace").write_text("0.05", encoding="ascii")
         started = self.start(name)
-        wait_until(lambda: len(games_of(self.read(record))) >= 4, "games are written")
+        wait_until(lambda: len(games_of(self.read(record))) >= lines, "games are written")
         self.assertTrue(is_alive(started), f"{name} goes on")
         return started
 
@@ -235,15 +237,38 @@ class Scale(support.Case):
         self.run_recipe("array")
         self.check_table()
 
-    def test_parallel(self) -> None:
+    def test_requeued_parts(self) -> None:
+        """Jobs that are queued again, as their node is down or by hand, go on with their records,
+        and the array waits for them."""
+        self.run_recipe("parts")
+        started = self.start_paced("array", "record.1", lines=2)
+        self.cluster.set_node("n1", "down")
+        running = ["squeue", "--noheader", "--states=R", "--format=%A"]
+        self.cluster.ask("scontrol", "requeue", self.cluster.ask(*running).split()[0])
+        self.assertEqual(self.end(started), 0)
+        self.check_table()
+
+    def check_killed_part(self, name: str, lines: int) -> None:
         """A part that is killed is played to its end by the same recipe."""
         self.run_recipe("parts")
-        started = self.start_paced("parallel", "record.1")
+        started = self.start_paced(name, "record.1", lines)
         os.kill(self.hive_of("part.sh"), signal.SIGKILL)
         self.assertEqual(self.end(started), 1)
         self.await_nobody()
-        self.run_recipe("parallel")
+        self.run_recipe(name)
         self.check_table()
+
+    def test_parallel(self) -> None:
+        self.check_killed_part("parallel", lines=4)
+
+    def test_ssh(self) -> None:
+        if SSHD is None:
+            self.skipTest("the recipe of docs/AT_SCALE.md for ssh, as there is no sshd")
+        server = SshServer(self.folder())
+        self.addCleanup(server.end)
+        self.environment |= {"PARALLEL_SSH": server.command}
+        (self.place / "nodes.txt").write_text(text_of(cluster.NODES), encoding="ascii")
+        self.check_killed_part("ssh", lines=2)
 
     def check_audit(self, name: str, engine: str, status: int, failing: int) -> None:
         """That the sums of the parts of an audit are one audit."""
