@@ -20,6 +20,7 @@ SETUP = ["--type", "Base+MLP", "--depth", "1", "--plies", "60", "--at-once", "2"
 RESUMED = [*SETUP, "--resume", "1"]
 STALLING = ["--type", "Base+MLP", "--depth", "1", "--plies", "30", "--patience", "00:00:02"]
 STALLING += ["--rounds", "2"]
+REPEATS = "hive: engines that answer alike play the same games in each round"
 
 
 def head(engines: Sequence[str], openings: Sequence[str]) -> str:
@@ -33,7 +34,8 @@ def head(engines: Sequence[str], openings: Sequence[str]) -> str:
 
 def started(engines: Sequence[str], words: Sequence[str], **how) -> subprocess.Popen:
     words = [PROGRAM, "tournament", "--engines", ";".join(engines), *words]
-    return subprocess.Popen(words, stdin=subprocess.PIPE, stdout=subprocess.PIPE, **how)
+    streams = {"stdin": subprocess.PIPE, "stdout": subprocess.PIPE, "stderr": subprocess.DEVNULL}
+    return subprocess.Popen(words, **{**streams, **how})
 
 
 def tournament(
@@ -81,7 +83,7 @@ class Tournaments(support.Case):
 
     def check_resumed(self, engines: Sequence[str], told: list[str]) -> None:
         """That a run which is killed in its middle goes on where its output is handed in."""
-        run = started(engines, SETUP, bufsize=0, stderr=subprocess.DEVNULL)
+        run = started(engines, SETUP, bufsize=0)
         run.stdin.write(text_of(self.openings).encode("ascii"))
         run.stdin.close()
         half = b""
@@ -186,4 +188,16 @@ class Tournaments(support.Case):
         os.close(shown)
         self.assertEqual(status, 0)
         points = [f"{done} of 4 games, {HIVE} {done}, {PROGRAM} {done}" for done in (2, 4)]
-        self.assertEqual(text, "".join(f"\r\x1b[K{it}" for it in points) + "\r\n")
+        repeats = f"{REPEATS}\r\n" + "".join(f"\r\x1b[K{it}" for it in points) + "\r\n"
+        self.assertEqual(text, repeats)
+
+    def test_no_terminal(self) -> None:
+        """Anything but a terminal gets a line behind each wave."""
+        words = ["--depth", "1", "--plies", "2", "--at-once", "2"]
+        words = ["tournament", "--engines", f"{HIVE};{PROGRAM}", *words]
+        for rounds, said in (("1", ""), ("2", f"{REPEATS}\n")):
+            done = support.finished([*words, "--rounds", rounds], stderr=subprocess.PIPE)
+            counts = range(2, 2 * int(rounds) + 1, 2)
+            games = 2 * int(rounds)
+            lines = [f"{it} of {games} games, {HIVE} {it}, {PROGRAM} {it}\n" for it in counts]
+            self.assertEqual(done.stderr.decode("ascii"), said + "".join(lines))

@@ -1,2 +1,3 @@
 pub mod Audits
 pub mod Complaints
+pub mod Notices

@@ -9,13 +9,15 @@ ghost use Rattle.std.specs.Prelude.{◌≡◌, ◌≢◌, ◌⊎◌, drop, map, 
 ghost use Rattle.command_words.specs.Words.{AreOfNoCommand, TakeOption};
 ghost use Rattle.hive.specs.Audits.{begin_with_audit};
 ghost use Rattle.hive.specs.Complaints.{complaint};
+ghost use Rattle.hive.specs.Notices.{is_at_depth, repeats};
 
 use command_runs::Status;
-use command_words::care_of;
+use command_words::{Asked, asked_of, care_of};
 use hive_cli::run;
 use libc::{STDERR_FILENO, isatty};
 use machine_edge::{Counted, MachineClock, Programs};
 use machine_hall::Hall;
+use match_core::Level;
 use std::env::Env;
 use std::io::{Eprint, ErrorKind};
 use std::os::fd::AsRawFd;
@@ -23,6 +25,9 @@ use std::process::{ExitCode, OpenProcess, Processes};
 use std::random::RandomSource;
 use std::thread::Threads;
 use std::{env, io, time};
+
+/// What standard error says if the games of a tournament will repeat.
+const REPEATS: &str = "hive: engines that answer alike play the same games in each round";
 
 /// The status of a run that cannot get its words, because memory ran out or a word is not UTF-8.
 fn status_of(kind: ErrorKind) -> Status
@@ -63,13 +68,43 @@ fn is_audit(words: &[String]) -> bool
     }
 }
 
+/// Whether engines are asked to a depth, and not in a time.
+fn is_at_depth(level: Level) -> bool
+    ensures { result ≡ is_at_depth level }
+{
+    match level {
+        Level::Depth { .. } => true,
+        Level::Time { .. } => false,
+    }
+}
+
+/// Whether a tournament is asked for in which engines that answer alike repeat their games.
+fn repeats(asked: Asked) -> bool
+    ensures { result ≡ repeats asked }
+{
+    match asked {
+        Asked::Tournament { setup, rounds, .. } => is_at_depth(setup.level) && rounds > 1,
+        _ => false,
+    }
+}
+
+/// Says on standard error that the games of a tournament will repeat, if they will.
+fn announce<R: Eprint + AllocGlobal>(rt: &R, words: &[String]) {
+    // a run without memory says so itself
+    if let Ok(Some(asked)) = asked_of(rt.alloc(), words) {
+        if repeats(asked) {
+            let _ = rt.eprintln(REPEATS);
+        }
+    }
+}
+
 /// Whether standard error is a terminal.
 fn is_terminal() -> bool {
     isatty(STDERR_FILENO) == 1
 }
 
-/// Runs over standard input and output, the machine's clock, and programs of the system. If
-/// standard error is a terminal, it shows the progress of an audit or a tournament.
+/// Runs over standard input and output, the machine's clock, and programs of the system. Standard
+/// error shows the progress of a tournament and, if it is a terminal, of an audit.
 fn run_on_streams<
     R: Input
         + Print
@@ -98,10 +133,11 @@ where
     let mut input = Counted::new(rt.reader());
     let mut output = Counted::new(io::writer(rt));
     let mut clock = MachineClock::new(rt);
-    let is_shown = is_terminal();
-    let hall = Hall::new(rt, rt.alloc(), is_shown);
-    let counts_games = is_shown && is_audit(words);
+    let is_terminal = is_terminal();
+    let hall = Hall::new(rt, rt.alloc(), is_terminal);
+    let counts_games = is_terminal && is_audit(words);
     let mut spawner = Programs::new(rt, rt.alloc(), care.limit, care.quiet, counts_games);
+    announce(rt, words);
     let outcome = run(
         rt,
         rt.alloc(),

@@ -1,4 +1,5 @@
-//! What the machine provides for a tournament: a clock for each game, and progress on a terminal.
+//! What the machine provides for a tournament: a clock for each game, and progress on standard
+//! error.
 ghost use Rattle.std.specs.Prelude.{◌≡◌};
 ghost use Rattle.tournament_core.specs.Schedules.{IsPlan};
 
@@ -7,6 +8,7 @@ use machine_edge::MachineClock;
 use std::alloc::Global;
 use std::io::Eprint;
 use std::marker::Model;
+use std::sync::atomic::{AtomicU64, Ordering};
 use std::{str, time};
 use tournament_core::{Plan, Standing, Tally, standings};
 use tournament_edge::{Clocks, Progress};
@@ -14,14 +16,19 @@ use tournament_edge::{Clocks, Progress};
 /// How many leaders are shown.
 const LEADERS: usize = 3;
 
-/// The machine's clocks, and standard error if progress is shown there.
+/// The least number of seconds from one showing of all standings to the next.
+const PAUSE: u64 = 60;
+
+/// The machine's clocks, and standard error, on which progress is shown.
 ///
-/// Contracts see only whether it is shown.
+/// Contracts see only whether standard error is a terminal.
 #[derive(Drop)]
 pub struct Hall<'a, R> {
     rt: &'a R,
     alloc: Global,
-    is_shown: bool,
+    is_terminal: bool,
+    /// The second of the clock at which all standings were last shown.
+    last: AtomicU64,
 }
 
 impl<'a, R> Model for Hall<'a, R> {
@@ -29,43 +36,84 @@ impl<'a, R> Model for Hall<'a, R> {
 
     ghost Value = { Bool };
 
-    ghost view = { λ h. h.is_shown };
+    ghost view = { λ h. h.is_terminal };
 }
 
-impl<'a, R: Eprint> Hall<'a, R> {
-    /// A hall that shows the progress of a tournament on standard error, or nothing.
-    pub fn new(rt: &'a R, alloc: Global, is_shown: bool) -> Self
-        ensures { result ≡ is_shown }
+/// The second that the machine's clock shows, or 0 if it cannot be read.
+fn second<R: time::Clock>(rt: &R) -> u64 {
+    match rt.monotonic() {
+        Ok(moment) => moment.as_secs(),
+        Err(_) => 0,
+    }
+}
+
+impl<'a, R: Eprint + time::Clock> Hall<'a, R> {
+    /// A hall that shows the progress of a tournament on standard error. A terminal shows one line
+    /// that changes. Anything else gets a line each time, and all standings each minute.
+    pub fn new(rt: &'a R, alloc: Global, is_terminal: bool) -> Self
+        ensures { result ≡ is_terminal }
     {
         Hall {
             rt,
             alloc,
-            is_shown,
+            is_terminal,
+            last: AtomicU64::new(second(rt)),
         }
     }
 
-    /// Shows the program and the points of a leader.
-    fn show_leader(&self, programs: &[Program], place: &Standing) {
+    /// Shows the program and the points of a standing, after some text.
+    fn show_standing(&self, before: &str, programs: &[Program], place: &Standing) {
         let Some(program) = programs.get((place.engine as usize).saturating_sub(1)) else {
             return;
         };
-        // if standard error fails too, the leader is not shown
+        // if standard error fails too, the standing is not shown
         if let Ok(text) = str::from_utf8(program.text()) {
-            let _ = eprint!(self.rt; ", {} {}", text, place.points);
+            let _ = eprint!(self.rt; "{}{} {}", before, text, place.points);
         }
     }
 
-    /// Shows how many games are done, and after that the leaders. It overwrites its previous line.
-    fn show_line(&self, programs: &[Program], plan: Plan, tally: &Tally, places: &[Standing])
+    /// Shows how many games are done, and after that the leaders.
+    fn show_leaders(&self, programs: &[Program], plan: Plan, tally: &Tally, places: &[Standing])
         requires { IsPlan plan }
     {
-        let games = plan.games();
-        let _ = eprint!(self.rt; "\r\x1b[K{} of {} games", tally.games(), games);
+        let _ = eprint!(self.rt; "{} of {} games", tally.games(), plan.games());
         for place in places.iter().take(LEADERS) {
-            self.show_leader(programs, place);
+            self.show_standing(", ", programs, place);
         }
-        if games <= tally.games() {
+    }
+
+    /// Shows a line that overwrites its previous one. The last one is ended.
+    fn show_on_terminal(&self, programs: &[Program], plan: Plan, tally: &Tally, places: &[Standing])
+        requires { IsPlan plan }
+    {
+        let _ = eprint!(self.rt; "\r\x1b[K");
+        self.show_leaders(programs, plan, tally, places);
+        if plan.games() <= tally.games() {
             let _ = self.rt.eprintln("");
+        }
+    }
+
+    /// Whether a minute has passed since all standings were last shown. Then they are shown now.
+    fn is_minute_over(&self) -> bool {
+        let now = second(self.rt);
+        if now.saturating_sub(self.last.load(Ordering::SeqCst)) < PAUSE {
+            return false;
+        }
+        self.last.store(now, Ordering::SeqCst);
+        true
+    }
+
+    /// Shows a line, and all standings if a minute has passed since they were last shown.
+    fn show_in_lines(&self, programs: &[Program], plan: Plan, tally: &Tally, places: &[Standing])
+        requires { IsPlan plan }
+    {
+        self.show_leaders(programs, plan, tally, places);
+        let _ = self.rt.eprintln("");
+        if self.is_minute_over() {
+            for place in places {
+                self.show_standing("    ", programs, place);
+                let _ = self.rt.eprintln("");
+            }
         }
     }
 }
@@ -78,13 +126,15 @@ impl<'a, R: time::Clock + Sync> Clocks for Hall<'a, R> {
     }
 }
 
-impl<'a, R: Eprint> Progress for Hall<'a, R> {
+impl<'a, R: Eprint + time::Clock> Progress for Hall<'a, R> {
     fn show(&self, programs: &[Program], plan: Plan, tally: &Tally) {
-        if !self.is_shown {
+        let Ok(places) = standings(self.alloc, tally) else {
             return;
-        }
-        if let Ok(places) = standings(self.alloc, tally) {
-            self.show_line(programs, plan, tally, places.items());
+        };
+        if self.is_terminal {
+            self.show_on_terminal(programs, plan, tally, places.items());
+        } else {
+            self.show_in_lines(programs, plan, tally, places.items());
         }
     }
 }

@@ -1,4 +1,4 @@
-//! What the machine provides for a tournament: clocks, and progress on a terminal.
+//! What the machine provides for a tournament: clocks, and progress on standard error.
 #![tactic(auto)]
 
 mod hall;
