@@ -29,6 +29,11 @@ class Words:
         return z ^ (z >> 31)
 
 
+def shortened(line: str) -> str:
+    """A line that was asked, as a finding names it."""
+    return line if len(line) <= LONGEST_ASKED else line[:LONGEST_ASKED] + ".."
+
+
 class Found(Exception):
     """What is wrong with a reply."""
 
@@ -42,8 +47,7 @@ class Missing(Exception):
 
     def __init__(self, fault: str, line: str) -> None:
         super().__init__(fault, line)
-        asked = line if len(line) <= LONGEST_ASKED else line[:LONGEST_ASKED] + ".."
-        self.line = f"{fault} asked {asked}"
+        self.line = f"{fault} asked {shortened(line)}"
 
 
 class Counts:
@@ -106,16 +110,17 @@ def judge_list(position: Position, line: str) -> None:
             raise Found("missing", position.text(move))
 
 
-def judge_string(play: Play, line: str) -> None:
-    """Finds what is wrong with a line as the game string of a game."""
+def judge_string(play: Play, asked: str, line: str) -> None:
+    """Finds what is wrong with a line as the game string of a game, in reply to what was asked."""
     game_type = play.position().game_type
+    wrong = Found("string", f"asked {shortened(asked)} answered {line}")
     try:
         read = reference.read_game(line)
     except reference.Refusal:
-        raise Found("string", line) from None
+        raise wrong from None
     is_same = (read.position().game_type, read.texts) == (game_type, play.texts)
     if not is_same or line == game_type:
-        raise Found("string", line)
+        raise wrong
 
 
 def line_of(text: str, move: Move) -> str:
@@ -147,16 +152,18 @@ class Audit:
     def run(self, plies: int) -> None:
         """Plays the game, and finds what is wrong with the first wrong reply."""
         play = self.play
-        judge_string(play, self.ask(f"newgame {play.position().game_type}"))
+        begin = f"newgame {play.position().game_type}"
+        judge_string(play, begin, self.ask(begin))
         while not play.is_over() and len(play.texts) < plies:
             position = play.position()
             self.count_list()
             first, second = self.words.next(), self.words.next()
             choices = choices_of(position, self.siege, first)
             move = choices[second % len(choices)]
-            reply = self.ask(line_of(position.text(move), move))
+            asked = line_of(position.text(move), move)
+            reply = self.ask(asked)
             play.make(move)
-            judge_string(play, reply)
+            judge_string(play, asked, reply)
         if play.texts:
             self.end()
 
@@ -166,15 +173,16 @@ class Audit:
         whole = (list(play.positions), list(play.texts))
         load = f"newgame {play.string()}"
         back = self.words.next() % len(play.texts) + 1
-        reply = self.ask(f"undo {back}")
+        undo = f"undo {back}"
+        reply = self.ask(undo)
         play.undo(back)
-        judge_string(play, reply)
+        judge_string(play, undo, reply)
         self.count_list()
         self.try_stale_move()
         # where no reply comes, the game is the one before it is loaded
         reply = self.ask(load)
         play.positions, play.texts = whole
-        judge_string(play, reply)
+        judge_string(play, load, reply)
         if not play.is_over():
             self.count_list()
 
@@ -209,8 +217,10 @@ def audit(
     plies: int = 80,
     game_type: str | None = None,
     first: int = 1,
+    most: int | None = None,
 ) -> list[str]:
-    """The lines of an audit from its first game on of an engine that plays these pieces."""
+    """The lines of an audit from its first game on of an engine that plays these pieces. It ends
+    behind the last of the most findings."""
     counts, lines, audited = Counts(), [], 0
     for number in range(first - 1, first - 1 + games):
         play = Play(type_of(game_type, plays, number))
@@ -220,7 +230,7 @@ def audit(
         except (Found, Missing) as found:
             ply = len(play.texts)
             lines.append(f"game {number + 1} ply {ply} {play.string()} {found.line}")
-            if isinstance(found, Missing):
+            if isinstance(found, Missing) or len(lines) == most:
                 break
     told = f"audited {audited} games {counts.positions} positions {counts.moves} moves"
     return [*lines, f"{told}, {len(lines)} findings"]

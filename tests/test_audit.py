@@ -135,6 +135,26 @@ class Audits(support.Case):
         wanted = text_of(audit(asked(audit_engines.changed("queens")), PLAYS, 1, 1))
         self.assertEqual(run(engine_named("queens"), 3, "--stop", "1"), (wanted, 1))
 
+    def test_most_findings(self) -> None:
+        """An audit ends behind as many findings as are asked for, or with its last game."""
+        for most, games in ((1, 1), (2, 2), (3, 3), (9, 4)):
+            with self.subTest(most):
+                ask = asked(audit_engines.changed("queens"))
+                wanted = text_of(audit(ask, PLAYS, 4, 1, most=most))
+                self.assertIn(f"audited {games} games", wanted)
+                found = run(engine_named("queens"), 4, "--most", str(most))
+                self.assertEqual(found, (wanted, 1))
+        # the first of the two that comes ends it
+        both = run(engine_named("queens"), 4, "--most", "3", "--stop", "1")
+        self.assertEqual(both, run(engine_named("queens"), 4, "--most", "1"))
+
+    def test_asked_lines(self) -> None:
+        """A finding of a wrong game string says which line was asked."""
+        for name, game, line in (("states", 2, "play "), ("loads", 1, "newgame Base")):
+            with self.subTest(name):
+                text, _ = run(engine_named(name), 1, "--first", str(game))
+                self.assertRegex(text, f" string asked {re.escape(line)}[^\\n]* answered ")
+
     def test_engines_that_stall(self) -> None:
         """Engines that say nothing, stall, leave or do not read, and one that is not there."""
         late, broke = (ENDED.replace("ended", it) for it in ("late", "broke asked newgame Base"))

@@ -14,7 +14,7 @@ use Rattle.audit_core.specs.declared.findings.Finding.{Finding}
 use Rattle.audit_core.specs.Judging.{wrong_list, wrong_refusal, wrong_string, ListsMoves, TellsGame}
 use Rattle.audit_core.specs.Drawing.{tried_of}
 use Rattle.audit_core.specs.Texts.{is_ok, is_refusal}
-use Rattle.audit_core.specs.AuditState.{AuditState, drawn_now, start, position_now, conclude, begin, next_game, end_game, note, found, break_off, go, go_or_find, go_back, close_game, list_or_end, play_drawn, count, advance, with_move, check_string, check_list, without_plies, position_before, next_word, try_drawn, loaded, list_loaded, check_undone, check_review, check_tried, check_relisted, check_loaded, check_finish, reply_ends, fresh, keep, reply_with, sent, at_mark, is_ended, named_in}
+use Rattle.audit_core.specs.AuditState.{AuditState, drawn_now, start, position_now, conclude, begin, next_game, end_game, note, found, break_off, go, go_or_find, go_back, close_game, list_or_end, play_drawn, count, advance, with_move, check_string, check_list, without_plies, position_before, next_word, try_drawn, loaded, list_loaded, check_undone, check_review, check_tried, check_relisted, check_loaded, check_finish, reply_ends, fresh, keep, reply_with, sent, at_mark, is_ended, line_at, named_in}
 use Rattle.audit_core.specs.Audits.{step, after_all, close, audit_of}
 use Rattle.audit_core.specs.Laws.{IsReply, IsRightLine, IsRight, IsRightAt, AreRight, AuditsFindFaults}
 use Rattle.audit_core.proofs.Judged.{replies_are_judged}
@@ -35,7 +35,7 @@ found_at true s = refl
 found_at false s = next_keeps s
 
 found_adds : (s : AuditState) (f : Finding) → (found s f).findings ≡ s.findings + 1
-found_adds s f = found_at s.plan.stop (end_game (note s f))
+found_adds s f = found_at (nat_le s.plan.most (s.findings + 1)) (end_game (note s f))
 
 close_at : (b : Bool) (s : AuditState) → (cond b (next_game (end_game s)) (go_back s)).findings ≡ s.findings
 close_at true s = next_keeps (end_game s)
@@ -72,20 +72,20 @@ judged_at : {P : Type 0} (s : AuditState) (o : Option Finding) (t : AuditState) 
 judged_at s None t same right back = inl (right refl, same)
 judged_at s (Some f) t same right back = inr (λ p. absurd (let e = back p in cc), found_adds s f)
 
-string_tells : (s : AuditState) (reply : List ℕ) → Tells (TellsGame s.game_type s.moves reply) s.findings (check_string s reply).findings
-string_tells s reply =
-    let law = replies_are_judged.strings s.game_type s.moves reply in
-    judged_at s (wrong_string s.game_type s.moves reply) (list_or_end s) (list_keeps s) law.0 law.1
+string_tells : (s : AuditState) (asked reply : List ℕ) → Tells (TellsGame s.game_type s.moves reply) s.findings (check_string s asked reply).findings
+string_tells s asked reply =
+    let law = replies_are_judged.strings s.game_type s.moves asked reply in
+    judged_at s (wrong_string s.game_type s.moves asked reply) (list_or_end s) (list_keeps s) law.0 law.1
 
 list_tells : (s : AuditState) (reply : List ℕ) → Tells (ListsMoves s.game_type (position_now s) reply) s.findings (check_list s reply).findings
 list_tells s reply =
     let law = replies_are_judged.lists s.game_type (position_now s) reply in
     judged_at s (wrong_list s.game_type (position_now s) reply) (play_drawn (advance (count s)) (drawn_now s)) (drawn_keeps (advance (count s)) (drawn_now s)) law.0 law.1
 
-undone_tells : (s : AuditState) (reply : List ℕ) → Tells (TellsGame s.game_type s.moves reply) s.findings (check_undone s reply).findings
-undone_tells s reply =
-    let law = replies_are_judged.strings s.game_type s.moves reply in
-    judged_at s (wrong_string s.game_type s.moves reply) (go s Reviewing) refl law.0 law.1
+undone_tells : (s : AuditState) (asked reply : List ℕ) → Tells (TellsGame s.game_type s.moves reply) s.findings (check_undone s asked reply).findings
+undone_tells s asked reply =
+    let law = replies_are_judged.strings s.game_type s.moves asked reply in
+    judged_at s (wrong_string s.game_type s.moves asked reply) (go s Reviewing) refl law.0 law.1
 
 review_tells : (s : AuditState) (reply : List ℕ) → Tells (ListsMoves s.game_type (position_now s) reply) s.findings (check_review s reply).findings
 review_tells s reply =
@@ -103,10 +103,10 @@ relisted_tells s reply =
     let law = replies_are_judged.lists s.game_type (position_now s) reply in
     judged_at s (wrong_list s.game_type (position_now s) reply) (go (count s) Loading) refl law.0 law.1
 
-loaded_tells : (s : AuditState) (reply : List ℕ) → Tells (TellsGame s.game_type s.moves reply) s.findings (check_loaded s reply).findings
-loaded_tells s reply =
-    let law = replies_are_judged.strings s.game_type s.moves reply in
-    judged_at s (wrong_string s.game_type s.moves reply) (list_loaded s) (loaded_keeps s) law.0 law.1
+loaded_tells : (s : AuditState) (asked reply : List ℕ) → Tells (TellsGame s.game_type s.moves reply) s.findings (check_loaded s asked reply).findings
+loaded_tells s asked reply =
+    let law = replies_are_judged.strings s.game_type s.moves asked reply in
+    judged_at s (wrong_string s.game_type s.moves asked reply) (list_loaded s) (loaded_keeps s) law.0 law.1
 
 finish_tells : (s : AuditState) (reply : List ℕ) → Tells (ListsMoves s.game_type (position_now s) reply) s.findings (check_finish s reply).findings
 finish_tells s reply =
@@ -115,14 +115,14 @@ finish_tells s reply =
 
 reply_tells : (s : AuditState) (stage : Stage) (reply : List ℕ) → Tells (IsReply s stage reply) s.findings (reply_ends s stage reply).findings
 reply_tells s Greeting reply = inl (tt, next_keeps (record s { plays = named_in (parts reply) }))
-reply_tells s Beginning reply = string_tells s reply
+reply_tells s Beginning reply = string_tells s (line_at s Beginning) reply
 reply_tells s Listing reply = list_tells s reply
-reply_tells s (Playing m) reply = string_tells (with_move s m) reply
-reply_tells s (Undoing back) reply = undone_tells (without_plies s back) reply
+reply_tells s (Playing m) reply = string_tells (with_move s m) (line_at s (Playing m)) reply
+reply_tells s (Undoing back) reply = undone_tells (without_plies s back) (line_at s (Undoing back)) reply
 reply_tells s Reviewing reply = review_tells s reply
 reply_tells s (Trying m) reply = refused_tells s m reply
 reply_tells s Relisting reply = relisted_tells s reply
-reply_tells s Loading reply = loaded_tells (loaded s) reply
+reply_tells s Loading reply = loaded_tells (loaded s) (line_at s Loading) reply
 reply_tells s Finishing reply = finish_tells s reply
 reply_tells s Over reply = inl (tt, refl)
 

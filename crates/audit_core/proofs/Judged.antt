@@ -26,7 +26,7 @@ use Rattle.audit_core.specs.declared.findings.Judged.{Judged}
 use Rattle.audit_core.specs.declared.findings.Judged.TheVariants.{Wrong, Next}
 use Rattle.audit_core.specs.Judging.{finding, has_move, first_missing, part_of, on_part, wrong_in, is_game, ListsNext, ListsRest}
 use Rattle.audit_core.specs.Laws.{RepliesAreJudged}
-use Rattle.audit_core.specs.Texts.{is_refusal}
+use Rattle.audit_core.specs.Texts.{answered_text, is_refusal}
 
 pub has_on : (ms : List Move) (m : Move) → has_move ms m ≡ true → IsOn ms m
 has_on ms m h = let r = any_has (is_move m) ms h in subst (IsOn ms) (is_move_same m r.0 r.2) r.1
@@ -97,15 +97,15 @@ right_rest t p listed (part ∷ others) (m, next, more) =
 
 -- Strings
 
-string_none : (line : List ℕ) (a b : Bool) → (if a && not b then None else Some (finding NotTheGame line)) ≡ None → (a ≡ true) × (b ≡ false)
-string_none line true false e = (refl, refl)
-string_none line true true e = absurd (cc)
-string_none line false b e = absurd (cc)
+string_none : (told : List ℕ) (a b : Bool) → (if a && not b then None else Some (finding NotTheGame told)) ≡ None → (a ≡ true) × (b ≡ false)
+string_none told true false e = (refl, refl)
+string_none told true true e = absurd (cc)
+string_none told false b e = absurd (cc)
 
-string_right : (line : List ℕ) (a b : Bool) → a ≡ true → b ≡ false → (if a && not b then None else Some (finding NotTheGame line)) ≡ None
-string_right line true false e f = refl
-string_right line true true e f = absurd (cc)
-string_right line false b e f = absurd (cc)
+string_right : (told : List ℕ) (a b : Bool) → a ≡ true → b ≡ false → (if a && not b then None else Some (finding NotTheGame told)) ≡ None
+string_right told true false e f = refl
+string_right told true true e f = absurd (cc)
+string_right told false b e f = absurd (cc)
 
 refused_none : (b : Stacks) (m : Move) (r : Bool) → (if r then None else Some (finding Accepted (text b m))) ≡ None → r ≡ true
 refused_none b m true e = refl
@@ -118,9 +118,9 @@ refused_right b m false e = absurd (cc)
 pub replies_are_judged : RepliesAreJudged
 replies_are_judged = record {
   lists = λ t p line. (rest_right t p [] (parts line), right_rest t p [] (parts line));
-  strings = λ t ms line. (
-    λ e. let r = string_none line (is_game t ms (game_of line)) (bytes_eq line (type_bytes t)) e in record { reads = r.0; whole = r.1 },
-    λ g. string_right line (is_game t ms (game_of line)) (bytes_eq line (type_bytes t)) g.reads g.whole,
+  strings = λ t ms asked line. (
+    λ e. let r = string_none (answered_text asked line) (is_game t ms (game_of line)) (bytes_eq line (type_bytes t)) e in record { reads = r.0; whole = r.1 },
+    λ g. string_right (answered_text asked line) (is_game t ms (game_of line)) (bytes_eq line (type_bytes t)) g.reads g.whole,
   );
   refusals = λ b m line. (refused_none b m (is_refusal line), refused_right b m (is_refusal line));
 }

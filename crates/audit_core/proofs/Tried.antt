@@ -1,6 +1,6 @@
 -- What holds at every stage of an audit: its games are games. A move that is tried was legal two
 -- plies before and is not legal now.
-use Rattle.std.proofs.Common.{◌≡◌, ℕ, ◌-◌, ◌<◌, ◌≤◌, Bool, true, false, cond, List, [], ◌∷◌, ◌++◌, length, None, Some, refl, subst, arith, length-append}
+use Rattle.std.proofs.Common.{◌≡◌, ℕ, ◌+◌, ◌-◌, ◌<◌, ◌≤◌, Bool, true, false, cond, List, [], ◌∷◌, ◌++◌, length, None, Some, refl, subst, arith, length-append}
 use Rattle.std.specs.Prelude.{◌||◌, not, nat_eq, nat_le, nat_lt}
 use Rattle.std.specs.declared.option.Option.{Option}
 use Rattle.std.specs.Option.{IfSome}
@@ -25,7 +25,7 @@ use Rattle.audit_core.specs.Judging.{has_move, wrong_list, wrong_refusal, wrong_
 use Rattle.audit_core.specs.Drawing.{is_siege, tried_of}
 use Rattle.audit_core.specs.Texts.{is_ok}
 use Rattle.audit_core.specs.Keeps.{IsPlan}
-use Rattle.audit_core.specs.AuditState.{AuditState, drawn_now, games_before, start, position_now, conclude, begin, next_game, end_game, note, found, break_off, go, go_or_find, go_back, close_game, list_or_end, play_drawn, count, advance, with_move, check_string, check_list, without_plies, position_before, next_word, try_drawn, loaded, list_loaded, check_undone, check_review, check_tried, check_relisted, check_loaded, check_finish, reply_ends, fresh, keep, reply_with, sent, at_mark, is_ended, named_in}
+use Rattle.audit_core.specs.AuditState.{AuditState, drawn_now, games_before, start, position_now, conclude, begin, next_game, end_game, note, found, break_off, go, go_or_find, go_back, close_game, list_or_end, play_drawn, count, advance, with_move, check_string, check_list, without_plies, position_before, next_word, try_drawn, loaded, list_loaded, check_undone, check_review, check_tried, check_relisted, check_loaded, check_finish, reply_ends, fresh, keep, reply_with, sent, at_mark, is_ended, line_at, named_in}
 use Rattle.audit_core.specs.Audits.{step, after_all}
 use Rattle.audit_core.specs.Laws.{TriesIllegal, TriedAreIllegal}
 use Rattle.audit_core.proofs.Judged.{on_has}
@@ -84,7 +84,7 @@ found_at true s g = conclude_so s g
 found_at false s g = next_so s g
 
 found_so : (s : AuditState) (f : Finding) → Games s → Stands (found s f)
-found_so s f g = found_at s.plan.stop (end_game (note s f)) g
+found_so s f g = found_at (nat_le s.plan.most (s.findings + 1)) (end_game (note s f)) g
 
 close_at : (b : Bool) (s : AuditState) → Games s → Stands (cond b (next_game (end_game s)) (go_back s))
 close_at true s g = next_so (end_game s) g
@@ -158,16 +158,16 @@ judged_so : (s : AuditState) (o : Option Finding) (t : AuditState) → Games s �
 judged_so s None t g h = h
 judged_so s (Some f) t g h = found_so s f g
 
-string_so : (s : AuditState) (reply : List ℕ) → Games s → Stands (check_string s reply)
-string_so s reply g = judged_so s (wrong_string s.game_type s.moves reply) (list_or_end s) g (list_so s g)
+string_so : (s : AuditState) (asked reply : List ℕ) → Games s → Stands (check_string s asked reply)
+string_so s asked reply g = judged_so s (wrong_string s.game_type s.moves asked reply) (list_or_end s) g (list_so s g)
 
 list_judged : (s : AuditState) (reply : List ℕ) → Games s → length s.moves < s.plan.plies → Stands (check_list s reply)
 list_judged s reply g less =
     judged_so s (wrong_list s.game_type (position_now s) reply) (play_drawn (advance (count s)) (drawn_now s)) g
     (drawn_so (advance (count s)) (drawn_now s) g less (drawn_legal (is_siege s.plan.seed (games_before s)) s.state (position_now s)))
 
-undone_so : (s : AuditState) (reply : List ℕ) → Games s → Stands (check_undone s reply)
-undone_so s reply g = judged_so s (wrong_string s.game_type s.moves reply) (go s Reviewing) g (g, tt)
+undone_so : (s : AuditState) (asked reply : List ℕ) → Games s → Stands (check_undone s asked reply)
+undone_so s asked reply g = judged_so s (wrong_string s.game_type s.moves asked reply) (go s Reviewing) g (g, tt)
 
 review_so : (s : AuditState) (reply : List ℕ) → Games s → Stands (check_review s reply)
 review_so s reply g =
@@ -181,22 +181,22 @@ refused_so s m reply g = judged_so s (wrong_refusal (position_now s).board m rep
 relisted_so : (s : AuditState) (reply : List ℕ) → Games s → Stands (check_relisted s reply)
 relisted_so s reply g = judged_so s (wrong_list s.game_type (position_now s) reply) (go (count s) Loading) g (g, tt)
 
-loaded_so : (s : AuditState) (reply : List ℕ) → Games s → Stands (check_loaded s reply)
-loaded_so s reply g = judged_so s (wrong_string s.game_type s.moves reply) (list_loaded s) g (loaded_at (is_over (position_now s)) s g)
+loaded_so : (s : AuditState) (asked reply : List ℕ) → Games s → Stands (check_loaded s asked reply)
+loaded_so s asked reply g = judged_so s (wrong_string s.game_type s.moves asked reply) (list_loaded s) g (loaded_at (is_over (position_now s)) s g)
 
 finish_so : (s : AuditState) (reply : List ℕ) → Games s → Stands (check_finish s reply)
 finish_so s reply g = judged_so s (wrong_list s.game_type (position_now s) reply) (next_game (end_game (count s))) g (next_so (end_game (count s)) g)
 
 reply_so : (s : AuditState) (stage : Stage) (reply : List ℕ) → Stands s → Fits stage s.plan.plies s.game_type s.moves → Stands (reply_ends s stage reply)
 reply_so s Greeting reply h fits = next_so (record s { plays = named_in (parts reply) }) h.0
-reply_so s Beginning reply h fits = string_so s reply h.0
+reply_so s Beginning reply h fits = string_so s (line_at s Beginning) reply h.0
 reply_so s Listing reply h fits = list_judged s reply h.0 fits
-reply_so s (Playing m) reply h fits = string_so (with_move s m) reply (more_so s m h.0 fits.0 fits.1)
-reply_so s (Undoing back) reply h fits = undone_so (without_plies s back) reply (less_so s back h.0)
+reply_so s (Playing m) reply h fits = string_so (with_move s m) (line_at s (Playing m)) reply (more_so s m h.0 fits.0 fits.1)
+reply_so s (Undoing back) reply h fits = undone_so (without_plies s back) (line_at s (Undoing back)) reply (less_so s back h.0)
 reply_so s Reviewing reply h fits = review_so s reply h.0
 reply_so s (Trying m) reply h fits = refused_so s m reply h.0
 reply_so s Relisting reply h fits = relisted_so s reply h.0
-reply_so s Loading reply h fits = loaded_so (loaded s) reply (swap_so s h.0)
+reply_so s Loading reply h fits = loaded_so (loaded s) (line_at s Loading) reply (swap_so s h.0)
 reply_so s Finishing reply h fits = finish_so s reply h.0
 reply_so s Over reply h fits = h
 

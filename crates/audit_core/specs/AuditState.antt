@@ -161,10 +161,11 @@ note s f = record s {
   findings = s.findings + 1;
 }
 
--- A finding ends its game, and also the audit if the audit stops at one.
+-- A finding ends its game. It also ends the audit if there are as many findings now as end it.
 abbrev pub found : AuditState → Finding → AuditState
 found s f =
-    cond s.plan.stop (conclude (end_game (note s f))) (next_game (end_game (note s f)))
+    cond (nat_le s.plan.most (s.findings + 1)) (conclude (end_game (note s f)))
+    (next_game (end_game (note s f)))
 
 -- A reply is missing, and that ends the audit. The finding names the line of the stage, which was
 -- sent last or which could not be written. It names none if the greeting is missing.
@@ -212,9 +213,11 @@ advance s = record s { state = state_after s.state }
 abbrev pub with_move : AuditState → Move → AuditState
 with_move s m = record s { stage = Beginning; moves = s.moves ++ m ∷ [] }
 
--- The reply to the start of a game, or to a move, must be the game string.
-abbrev pub check_string : AuditState → List ℕ → AuditState
-check_string s reply = go_or_find s (wrong_string s.game_type s.moves reply) (list_or_end s)
+-- The reply to the start of a game, or to a move, must be the game string. A finding names the line
+-- that was asked.
+abbrev pub check_string : AuditState → List ℕ → List ℕ → AuditState
+check_string s asked reply =
+    go_or_find s (wrong_string s.game_type s.moves asked reply) (list_or_end s)
 
 -- The reply to a question for moves must be the list of the legal ones.
 abbrev pub check_list : AuditState → List ℕ → AuditState
@@ -231,8 +234,9 @@ without_plies s back = record s {
 }
 
 -- The reply to an undo must be the game string. Then the list is asked for.
-abbrev pub check_undone : AuditState → List ℕ → AuditState
-check_undone s reply = go_or_find s (wrong_string s.game_type s.moves reply) (go s Reviewing)
+abbrev pub check_undone : AuditState → List ℕ → List ℕ → AuditState
+check_undone s asked reply =
+    go_or_find s (wrong_string s.game_type s.moves asked reply) (go s Reviewing)
 
 -- A move was drawn that is to be tried.
 abbrev pub next_word : AuditState → AuditState
@@ -269,8 +273,9 @@ abbrev pub list_loaded : AuditState → AuditState
 list_loaded s = cond (is_over (position_now s)) (next_game (end_game s)) (go s Finishing)
 
 -- The reply to the loading of the whole game must be its game string.
-abbrev pub check_loaded : AuditState → List ℕ → AuditState
-check_loaded s reply = go_or_find s (wrong_string s.game_type s.moves reply) (list_loaded s)
+abbrev pub check_loaded : AuditState → List ℕ → List ℕ → AuditState
+check_loaded s asked reply =
+    go_or_find s (wrong_string s.game_type s.moves asked reply) (list_loaded s)
 
 -- The list there must be that of the legal moves, and the game has ended.
 abbrev pub check_finish : AuditState → List ℕ → AuditState
@@ -298,14 +303,15 @@ greet s reply = next_game (record s { plays = named_in (parts reply) })
 -- A reply has ended.
 abbrev pub reply_ends : AuditState → Stage → List ℕ → AuditState
 reply_ends s Greeting reply = greet s reply
-reply_ends s Beginning reply = check_string s reply
+reply_ends s Beginning reply = check_string s (line_at s Beginning) reply
 reply_ends s Listing reply = check_list s reply
-reply_ends s (Playing m) reply = check_string (with_move s m) reply
-reply_ends s (Undoing back) reply = check_undone (without_plies s back) reply
+reply_ends s (Playing m) reply = check_string (with_move s m) (line_at s (Playing m)) reply
+reply_ends s (Undoing back) reply =
+    check_undone (without_plies s back) (line_at s (Undoing back)) reply
 reply_ends s Reviewing reply = check_review s reply
 reply_ends s (Trying m) reply = check_tried s m reply
 reply_ends s Relisting reply = check_relisted s reply
-reply_ends s Loading reply = check_loaded (loaded s) reply
+reply_ends s Loading reply = check_loaded (loaded s) (line_at s Loading) reply
 reply_ends s Finishing reply = check_finish s reply
 reply_ends s Over reply = s
 

@@ -22,7 +22,7 @@ use Rattle.audit_core.specs.declared.findings.Fault.TheVariants.{Missing, Extra,
 use Rattle.audit_core.specs.declared.findings.Finding.{Finding}
 use Rattle.audit_core.specs.declared.findings.Judged.{Judged}
 use Rattle.audit_core.specs.declared.findings.Judged.TheVariants.{Wrong, Next}
-use Rattle.audit_core.specs.Texts.{is_refusal}
+use Rattle.audit_core.specs.Texts.{answered_text, is_refusal}
 
 abbrev pub finding : Fault → List ℕ → Finding
 finding fault text = record { fault = fault; text = text }
@@ -82,13 +82,13 @@ abbrev pub is_game : GameType → List Move → Result Parsed GameFault → Bool
 is_game t ms (Err fault) = false
 is_game t ms (Ok g) = same_type g.game_type t && same_moves g.moves ms
 
--- What is wrong with a line as the game string of a game. It is another game or none, or a type
--- alone, which gives neither state nor turn.
-abbrev pub wrong_string : GameType → List Move → List ℕ → Option Finding
-wrong_string t ms line =
+-- What is wrong with a line as the game string of a game, in reply to what was asked. It is another
+-- game or none, or a type alone, which gives neither state nor turn.
+abbrev pub wrong_string : GameType → List Move → List ℕ → List ℕ → Option Finding
+wrong_string t ms asked line =
     if is_game t ms (game_of line) && not (bytes_eq line (type_bytes t))
     then None
-    else Some (finding NotTheGame line)
+    else Some (finding NotTheGame (answered_text asked line))
 
 -- Refusals
 

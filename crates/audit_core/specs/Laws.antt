@@ -24,8 +24,8 @@ use Rattle.audit_core.specs.Audits.{after_all, step, audit_of}
 pub record RepliesAreJudged : Type 0 where
   pub lists : (t : GameType) (p : Position) (line : List ℕ)
       → (wrong_list t p line ≡ None) ↔ ListsMoves t p line
-  pub strings : (t : GameType) (ms : List Move) (line : List ℕ)
-      → (wrong_string t ms line ≡ None) ↔ TellsGame t ms line
+  pub strings : (t : GameType) (ms : List Move) (asked line : List ℕ)
+      → (wrong_string t ms asked line ≡ None) ↔ TellsGame t ms line
   pub refusals : (b : Stacks) (m : Move) (line : List ℕ)
       → (wrong_refusal b m line ≡ None) ↔ (is_refusal line ≡ true)
 

@@ -78,6 +78,15 @@ abbrev pub asked_text : List ℕ → List ℕ
 asked_text [] = []
 asked_text (byte ∷ bytes) = codes "asked " ++ shortened (take (length bytes) (byte ∷ bytes))
 
+-- a reply, with a space (32) before it; nothing if it is empty
+abbrev pub behind_space : List ℕ → List ℕ
+behind_space [] = []
+behind_space (byte ∷ bytes) = 32 ∷ (byte ∷ bytes)
+
+-- what a finding says of a reply to the line that was sent
+abbrev pub answered_text : List ℕ → List ℕ → List ℕ
+answered_text asked reply = asked_text asked ++ (codes " answered" ++ behind_space reply)
+
 abbrev pub fault_word : Fault → List ℕ
 fault_word Missing = codes "missing"
 fault_word Extra = codes "extra"

@@ -24,9 +24,10 @@ pub enum Fault {
     Broke,
 }
 
-/// What is wrong, and the text that shows it. The text is the missing move as it is written, the
-/// part of the list as the engine wrote it, or its reply. If a reply is missing, the text is
-/// `asked` and the line that was to be answered. It is empty if there is none.
+/// What is wrong, and the text that shows it. The text is the missing move as it is written, or the
+/// part of the list as the engine wrote it. If the reply is not the game string, it is `asked`, the
+/// line that was asked, `answered` and the reply. If a reply is missing, it is `asked` and the line
+/// that was to be answered. It is empty if there is none.
 #[derive(Drop)]
 pub struct Finding {
     pub fault: Fault,

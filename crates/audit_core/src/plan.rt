@@ -17,8 +17,8 @@ pub struct AuditPlan {
     /// The type of all games. If there is none, each of the eight types comes in turn, by the
     /// number of the game. Expansions that the engine does not name in its greeting are left out.
     pub game_type: Option<GameType>,
-    /// Whether the first finding ends the audit. Otherwise it only ends its game.
-    pub stop: bool,
+    /// The number of findings that ends the audit. Each earlier one only ends its game.
+    pub most: u64,
     /// Whether there is a limit on the wait for an answer.
     pub patient: bool,
 }

@@ -9,7 +9,7 @@ ghost use Rattle.audit_core.specs.Judging.{same_type, is_game, wrong_string};
 
 use crate::findings::{Fault, Finding};
 use crate::lists::{moves_made, same_moves};
-use crate::texts::copy_text;
+use crate::texts::answered_text;
 use game_text::{GameFault, Parsed, read_game};
 use hive_model::{Game, GameType, Move};
 use move_text::type_text;
@@ -52,20 +52,21 @@ fn is_game<G: Game + Drop>(alloc: Global, game: &G, line: &[u8]) -> Result<bool,
     }
 }
 
-/// What is wrong with a line as the game string of a game.
+/// What is wrong with a line as the game string of a game, in reply to what was asked.
 pub(crate) fn wrong_string<G: Game + Drop>(
     alloc: Global,
     game: &G,
+    asked: &[u8],
     line: &[u8],
 ) -> Result<Option<Finding>, AllocError>
     requires { length line.now ≤ greatest_line }
     ensures { let now = G.history game.now in
-        IfOk result (λ o. o ≡ wrong_string now.game_type now.made line.now) }
+        IfOk result (λ o. o ≡ wrong_string now.game_type now.made asked.now line.now) }
 {
     if is_game(alloc, game, line)? && !is_type(line, game.game_type()) {
         return Ok(None);
     }
-    let text = copy_text(alloc, line)?;
+    let text = answered_text(alloc, asked, line)?;
     Ok(Some(Finding {
         fault: Fault::NotTheGame,
         text,

@@ -18,7 +18,9 @@ ghost use Rattle.hive_model.specs.Legal.{moves};
 ghost use Rattle.hive_model.specs.Denotes.{text};
 ghost use Rattle.move_text.specs.Moves.{IsMoveWithin};
 ghost use Rattle.audit_core.specs.Texts.{
+  answered_text,
   asked_text,
+  behind_space,
   shortened,
   begin_line,
   begins_by,
@@ -257,6 +259,32 @@ pub(crate) fn asked_text(alloc: Global, line: &[u8]) -> Result<LineText, AllocEr
     let (line, _) = line.split_at(line.len() - 1);
     text.push_all(b"asked ")?;
     push_shortened(&mut text, line)?;
+    Ok(text)
+}
+
+/// Appends a reply after a space, if it is not empty. If memory runs out, a prefix of that was
+/// appended.
+fn push_reply(text: &mut LineText, reply: &[u8]) -> Result<(), AllocError>
+    ensures { OnOk result (text.new ≡ text.old ++ behind_space reply.now) }
+{
+    if reply.is_empty() {
+        return Ok(());
+    }
+    text.push(b' ')?;
+    text.push_all(reply)
+}
+
+/// What a finding says of a reply to the line that was sent, its LF included.
+pub(crate) fn answered_text(
+    alloc: Global,
+    asked: &[u8],
+    reply: &[u8],
+) -> Result<LineText, AllocError>
+    ensures { IfOk result (λ t. t ≡ answered_text asked.now reply.now) }
+{
+    let mut text = asked_text(alloc, asked)?;
+    text.push_all(b" answered")?;
+    push_reply(&mut text, reply)?;
     Ok(text)
 }
 

@@ -1,9 +1,11 @@
 -- The numbers that words ask for are in their ranges.
-use Rattle.std.proofs.Common.{◌≡◌, ◌≤◌, ◌%◌, sym, subst, arith, ℕ, List, Option, None, Some, String, Global}
+use Rattle.std.proofs.Common.{◌≡◌, ◌≤◌, ◌%◌, sym, subst, arith, ℕ, Bool, true, false, List, Option, None, Some, String, Global}
+use Rattle.std.specs.Prelude.{if◌then◌else◌}
 use Rattle.hive_model.specs.Fields.{IsTimeText}
 use Rattle.match_core.specs.Keeps.{IsLevel, IsSetup}
 use Rattle.match_core.specs.declared.setup.Level.{Level}
 use Rattle.match_core.specs.declared.setup.Setup.{Setup}
+use Rattle.command_words.specs.Audits.{IsMostOf}
 use Rattle.command_words.specs.Matches.{Choices, IsLevelOf, IsNumberOr, IsSetupOf}
 use Rattle.command_words.specs.Words.{IsInRange, Words}
 use Rattle.command_words.specs.declared.asked.Asked.{Asked}
@@ -32,6 +34,14 @@ setup_in choices setup is =
     let margin = number_in choices.margin 0 3600000 1000 is.margin (omega arith) (omega arith) is.margin_is in
     record { some = limit.0; few = limit.1; level = level_in choices.depth choices.time is.margin setup.level margin.1 is.level }
 
+most_at : (stops : Bool) (m n : ℕ) → (1 ≤ m) × (m ≤ 1000000) → n ≡ (if stops then 1 else m) → (1 ≤ n) × (n ≤ 1000000)
+most_at true m n fits e = (omega (arith, e), omega (arith, e))
+most_at false m n fits e = subst (λ k. (1 ≤ k) × (k ≤ 1000000)) (sym e) fits
+
+most_in : (stop most : Option (List ℕ)) (n : ℕ) → IsMostOf stop most n → (1 ≤ n) × (n ≤ 1000000)
+most_in stop most n (stops, m, rule, is, e) =
+    most_at stops m n (number_in most 1 1000000 1000000 m (omega arith) (omega arith) is) e
+
 pub in_range : (words : List (String Global)) (asked : Asked) → Words words asked → IsInRange asked
 in_range words Session w = tt
 in_range words (Replay repetition) w = tt
@@ -50,7 +60,8 @@ in_range words Migrate w = tt
 in_range words (Audit audit) w =
     let first = number_in _ 1 1000000000 1 audit.first (omega arith) (omega arith) w.choose.first_is in
     let each = number_in _ 1 1000 80 audit.plies (omega arith) (omega arith) w.choose.plies_are in
-    (w.choose.games_are.low, w.choose.games_are.high, first.0, first.1, each.0, each.1)
+    let most = most_in _ _ audit.most w.choose.most_is in
+    (w.choose.games_are.low, w.choose.games_are.high, first.0, first.1, each.0, each.1, most.0, most.1)
 in_range words (Tournament setup rounds gauntlet at_once resume) w =
     let some = number_in w.options.rounds 1 10000 1 rounds (omega arith) (omega arith) w.rounds_is in
     let once = number_in w.options.at_once 1 64 1 at_once (omega arith) (omega arith) w.at_once_is in

@@ -1,5 +1,5 @@
 -- The words that ask for an audit of a program.
-use Rattle.std.specs.Prelude.{◌≡◌, ℕ, ◌-◌, ◌^◌, List, [], ◌∷◌, codes, map, string_bytes, Option, None, Some, is_some, option_map}
+use Rattle.std.specs.Prelude.{◌≡◌, ℕ, ◌-◌, ◌^◌, Bool, List, [], ◌∷◌, codes, map, string_bytes, Option, None, Some, is_some, option_map, if◌then◌else◌}
 use Rattle.std.specs.declared.string.String.{String}
 use Rattle.std.specs.declared.alloc.Global.{Global}
 use Rattle.hive_model.specs.declared.pieces.GameType.{GameType}
@@ -23,6 +23,13 @@ IsTypeGiven (Some text) game_type =
 abbrev pub untimed : Level
 untimed = Depth 1
 
+-- How many findings end an audit. It is 1 if the first finding stops it. Otherwise it is the number
+-- given. It is 1,000,000 if none is given, which is the most games, each of one finding at most.
+abbrev pub IsMostOf : Option (List ℕ) → Option (List ℕ) → ℕ → Type 0
+IsMostOf stop most n =
+    (stops : Bool) × (m : ℕ) × IsRuleOf stop stops × IsNumberOr most 1 1000000 1000000 m
+    × (n ≡ if stops then 1 else m)
+
 -- the texts of the options of an audit: the three required ones, and the others if they are given
 pub record AuditOptions : Type 0 where
   pub engine : List ℕ
@@ -34,6 +41,7 @@ pub record AuditOptions : Type 0 where
   pub quiet : Option (List ℕ)
   pub stop : Option (List ℕ)
   pub first : Option (List ℕ)
+  pub most : Option (List ℕ)
 
 -- a program's texts of these options
 abbrev pub options_in : AuditTexts → AuditOptions
@@ -47,6 +55,7 @@ options_in texts = record {
   quiet = option_map (λ t. t.now) texts.quiet;
   stop = option_map (λ t. t.now) texts.stop;
   first = option_map (λ t. t.now) texts.first;
+  most = option_map (λ t. t.now) texts.most;
 }
 
 -- the options of an audit, in the order in which their values are given
@@ -54,12 +63,12 @@ abbrev pub audit_options : List (List ℕ)
 audit_options =
     codes "engine" ∷ (codes "games" ∷ (codes "seed" ∷ (codes "plies" ∷
     (codes "type" ∷ (codes "patience" ∷ (codes "quiet" ∷ (codes "stop" ∷
-    (codes "first" ∷ []))))))))
+    (codes "first" ∷ (codes "most" ∷ [])))))))))
 
 abbrev pub audit_values : AuditOptions → List (Option (List ℕ))
 audit_values o =
     Some o.engine ∷ (Some o.games ∷ (Some o.seed ∷ (o.plies ∷
-    (o.game_type ∷ (o.patience ∷ (o.quiet ∷ (o.stop ∷ (o.first ∷ []))))))))
+    (o.game_type ∷ (o.patience ∷ (o.quiet ∷ (o.stop ∷ (o.first ∷ (o.most ∷ [])))))))))
 
 -- The words are `audit` and its options, with these values.
 abbrev pub GiveAudit : List (String Global) → AuditOptions → Type 0
@@ -69,8 +78,8 @@ GiveAudit words options =
 -- The options have values of their form. There are from 1 to 1,000,000 games, with moves drawn from
 -- a seed, any number below 2^64. The number of the first game is from 1 to 1,000,000,000, and 1 if
 -- none is given. A game has from 1 to 1,000 plies, and 80 if none are given. There is one type for
--- all games, or none. The value 1 makes the first finding end the audit. The audit is patient if
--- there is a limit on the wait for the program.
+-- all games, or none. The audit ends behind so many findings. It is patient if there is a limit on
+-- the wait for the program.
 pub record ChooseAudit (options : AuditOptions) (audit : AuditAsked) : Type 0 where
   pub program : IsProgram options.engine
   pub games_are : IsNumberText options.games 1 1000000 audit.games
@@ -78,7 +87,7 @@ pub record ChooseAudit (options : AuditOptions) (audit : AuditAsked) : Type 0 wh
   pub seed_is : IsNumberText options.seed 0 (2 ^ 64 - 1) audit.seed
   pub plies_are : IsNumberOr options.plies 1 1000 80 audit.plies
   pub kind : IsTypeGiven options.game_type audit.game_type
-  pub stop_is : IsRuleOf options.stop audit.stop
+  pub most_is : IsMostOf options.stop options.most audit.most
   pub care : EngineLimits
   pub care_is : IsCareOf options.patience options.quiet untimed care
   pub patient_is : audit.patient ≡ is_some care.limit

@@ -160,5 +160,6 @@ IsInRange (Audit audit) =
     (1 ≤ audit.games) × (audit.games ≤ 1000000)
     × (1 ≤ audit.first) × (audit.first ≤ 1000000000)
     × (1 ≤ audit.plies) × (audit.plies ≤ 1000)
+    × (1 ≤ audit.most) × (audit.most ≤ 1000000)
 IsInRange (Tournament setup rounds gauntlet at_once resume) =
     IsSetup setup × (1 ≤ rounds) × (rounds ≤ 10000) × (1 ≤ at_once) × (at_once ≤ 64)

@@ -2,6 +2,7 @@
 ghost use Rattle.std.specs.Prelude.{
   ◌≡◌,
   ◌<◌,
+  ℕ,
   MatchOption,
   Option,
   Some,
@@ -9,6 +10,7 @@ ghost use Rattle.std.specs.Prelude.{
   length,
   map,
   string_bytes,
+  if◌then◌else◌,
   IfOk,
   IfSome,
 };
@@ -21,6 +23,7 @@ ghost use Rattle.command_words.specs.Audits.{
   AuditOptions,
   ChooseAudit,
   GiveAudit,
+  IsMostOf,
   IsTypeGiven,
   options_in,
 };
@@ -36,9 +39,12 @@ use option_words::options_of;
 use std::alloc::{AllocError, Global};
 
 /// The options of an audit, in the order in which their values are asked for.
-const OPTIONS: [&str; 9] = [
-    "engine", "games", "seed", "plies", "type", "patience", "quiet", "stop", "first",
+const OPTIONS: [&str; 10] = [
+    "engine", "games", "seed", "plies", "type", "patience", "quiet", "stop", "first", "most",
 ];
+
+/// The greatest number of games, and of findings, since a game has one at most.
+const MOST_GAMES: u64 = 1_000_000;
 
 /// No time is set for an answer, as in a match to a depth.
 const UNTIMED: Level = Level::Depth { depth: 1 };
@@ -56,8 +62,8 @@ pub struct AuditAsked {
     pub plies: u32,
     /// The type of all games, if one is asked for.
     pub game_type: Option<GameType>,
-    /// Whether the first finding ends the audit.
-    pub stop: bool,
+    /// The number of findings that ends the audit: 1 to 1,000,000.
+    pub most: u64,
     /// Whether the care sets a limit on the wait for the program.
     pub patient: bool,
 }
@@ -74,6 +80,7 @@ pub(crate) struct AuditTexts<'a> {
     pub(crate) quiet: Option<&'a str>,
     pub(crate) stop: Option<&'a str>,
     pub(crate) first: Option<&'a str>,
+    pub(crate) most: Option<&'a str>,
 }
 
 /// The texts that the words give the options of an audit: `audit` and its options. The program, the
@@ -106,6 +113,7 @@ fn texts_of<'a>(alloc: Global, words: &'a [String]) -> Result<Option<AuditTexts<
         quiet: given.value(6),
         stop: given.value(7),
         first: given.value(8),
+        most: given.value(9),
     }))
 }
 
@@ -121,6 +129,26 @@ fn type_given(text: Option<&str>) -> Option<Option<GameType>>
     }
 }
 
+/// The number of findings that ends an audit, which the first one may stop.
+fn ending(stops: bool, most: u64) -> u64
+    ensures { result ≡ if stops then 1 else most }
+{
+    if stops { 1 } else { most }
+}
+
+/// How many findings end the audit, by the texts of `stop` and `most`, if they are given. It is
+/// `None` if one of them is not a value of its option.
+fn most_of(stop: Option<&str>, most: Option<&str>) -> Option<u64>
+    ensures found { IfSome result (λ n. IsMostOf (option_map (λ t. t.now) stop.entry)
+        (option_map (λ t. t.now) most.entry) n) }
+    ensures only { (n : ℕ) → IsMostOf (option_map (λ t. t.now) stop.entry)
+        (option_map (λ t. t.now) most.entry) n → result ≡ Some n }
+{
+    let stops = rule_of(stop)?;
+    let number = number_or(most, 1, MOST_GAMES, MOST_GAMES)?;
+    Some(ending(stops, number))
+}
+
 /// How the games are made, by these texts. It is `None` if one of them is not a value of its
 /// option, including those of the program and of the care for it.
 fn audit_at(texts: AuditTexts<'_>) -> Option<AuditAsked>
@@ -130,12 +158,12 @@ fn audit_at(texts: AuditTexts<'_>) -> Option<AuditAsked>
     if !is_program(texts.engine) {
         return None;
     }
-    let games = read_number(texts.games.as_bytes(), 1, 1_000_000)?;
+    let games = read_number(texts.games.as_bytes(), 1, MOST_GAMES)?;
     let first = number_or(texts.first, 1, 1_000_000_000, 1)?;
     let seed = read_number(texts.seed.as_bytes(), 0, u64::MAX)?;
     let plies = number_or(texts.plies, 1, 1000, 80)?;
     let game_type = type_given(texts.game_type)?;
-    let stop = rule_of(texts.stop)?;
+    let most = most_of(texts.stop, texts.most)?;
     let care = care_at(texts.patience, texts.quiet, UNTIMED)?;
     Some(AuditAsked {
         games,
@@ -143,7 +171,7 @@ fn audit_at(texts: AuditTexts<'_>) -> Option<AuditAsked>
         seed,
         plies: plies as u32,
         game_type,
-        stop,
+        most,
         patient: care.limit.is_some(),
     })
 }

@@ -126,7 +126,7 @@ plan_of audit = record {
   seed = audit.seed;
   plies = audit.plies;
   game_type = audit.game_type;
-  stop = audit.stop;
+  most = audit.most;
   patient = audit.patient;
 }
 

@@ -151,7 +151,7 @@ fn plan_of(audit: AuditAsked) -> AuditPlan
         seed: audit.seed,
         plies: audit.plies,
         game_type: audit.game_type,
-        stop: audit.stop,
+        most: audit.most,
         patient: audit.patient,
     }
 }

@@ -47,7 +47,7 @@ const THREE_GAMES: AuditPlan = AuditPlan {
     seed: 0,
     plies: 2,
     game_type: Some(BASE),
-    stop: false,
+    most: 1_000_000,
     patient: false,
 };
 
@@ -58,7 +58,7 @@ const PATIENTLY: AuditPlan = AuditPlan {
     seed: 0,
     plies: 2,
     game_type: Some(BASE),
-    stop: false,
+    most: 1_000_000,
     patient: true,
 };
 
@@ -69,7 +69,7 @@ const FROM_THE_FOURTH: AuditPlan = AuditPlan {
     seed: 0,
     plies: 2,
     game_type: None,
-    stop: false,
+    most: 1_000_000,
     patient: false,
 };
 

@@ -22,6 +22,7 @@ ghost use Rattle.audit_core.specs.AuditState.{
   list_loaded,
   check_loaded,
   check_finish,
+  line_at,
 };
 
 use super::Auditor;
@@ -48,11 +49,11 @@ impl<G: Game + Drop> Auditor<G> {
     }
 
     /// Checks the reply to an undo, which must be the game string. Then the list is asked for.
-    fn check_undone(&mut self, reply: &[u8]) -> Result<(), AllocError>
+    fn check_undone(&mut self, asked: &[u8], reply: &[u8]) -> Result<(), AllocError>
         requires { length reply.now ≤ greatest_line }
-        ensures { OnOk result (self.new ≡ check_undone self.old reply.now) }
+        ensures { OnOk result (self.new ≡ check_undone self.old asked.now reply.now) }
     {
-        match wrong_string(self.alloc, &self.game, reply)? {
+        match wrong_string(self.alloc, &self.game, asked, reply)? {
             None => {
                 self.stage = Stage::Reviewing;
                 self.sending = true;
@@ -66,11 +67,12 @@ impl<G: Game + Drop> Auditor<G> {
     pub(super) fn check_undo(&mut self, plies: u32, reply: &[u8]) -> Result<(), AllocError>
         requires short { length reply.now ≤ greatest_line }
         requires stage { self.old.stage ≡ Stage.Undoing plies }
-        ensures { OnOk result (self.new
-            ≡ check_undone (without_plies self.old plies) reply.now) }
+        ensures { OnOk result (self.new ≡ check_undone (without_plies self.old plies)
+            (line_at self.old (Stage.Undoing plies)) reply.now) }
     {
+        let asked = self.place_line()?;
         self.take_back(plies)?;
-        self.check_undone(reply)
+        self.check_undone(asked.items(), reply)
     }
 
     /// Draws one of the moves that were legal two plies before and are not now, if there is one.
@@ -186,11 +188,11 @@ impl<G: Game + Drop> Auditor<G> {
     }
 
     /// Checks the reply, which must be the game string of the whole game.
-    fn check_loaded(&mut self, reply: &[u8]) -> Result<(), AllocError>
+    fn check_loaded(&mut self, asked: &[u8], reply: &[u8]) -> Result<(), AllocError>
         requires { length reply.now ≤ greatest_line }
-        ensures { OnOk result (self.new ≡ check_loaded self.old reply.now) }
+        ensures { OnOk result (self.new ≡ check_loaded self.old asked.now reply.now) }
     {
-        match wrong_string(self.alloc, &self.game, reply)? {
+        match wrong_string(self.alloc, &self.game, asked, reply)? {
             None => self.list_loaded(),
             Some(finding) => self.found(&finding),
         }
@@ -198,11 +200,14 @@ impl<G: Game + Drop> Auditor<G> {
 
     /// Restores the whole game, and checks the reply, which must be its game string.
     pub(super) fn check_load(&mut self, reply: &[u8]) -> Result<(), AllocError>
-        requires { length reply.now ≤ greatest_line }
-        ensures { OnOk result (self.new ≡ check_loaded (loaded self.old) reply.now) }
+        requires short { length reply.now ≤ greatest_line }
+        requires stage { self.old.stage ≡ Stage.Loading }
+        ensures { OnOk result (self.new
+            ≡ check_loaded (loaded self.old) (line_at self.old Stage.Loading) reply.now) }
     {
+        let asked = self.place_line()?;
         self.restore();
-        self.check_loaded(reply)
+        self.check_loaded(asked.items(), reply)
     }
 
     /// Counts a list that was right, and ends the game.

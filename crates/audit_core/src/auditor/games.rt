@@ -106,12 +106,13 @@ impl<G: Game + Drop> Auditor<G> {
         self.conclude()
     }
 
-    /// Notes a finding. It ends its game, and also the audit if the audit stops at one.
+    /// Notes a finding. It ends its game. It also ends the audit if there are as many findings now
+    /// as end it.
     pub(super) fn found(&mut self, finding: &Finding) -> Result<(), AllocError>
         ensures { OnOk result (self.new ≡ found self.old finding.now) }
     {
         self.note(finding)?;
-        if self.plan.stop {
+        if self.plan.most <= self.findings {
             self.end_audit()
         } else {
             self.end_game()

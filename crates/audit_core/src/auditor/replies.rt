@@ -17,6 +17,7 @@ ghost use Rattle.audit_core.specs.AuditState.{
   greet,
   reply_ends,
   keep,
+  line_at,
   reply_with,
   is_greeting,
 };
@@ -54,15 +55,26 @@ impl<G: Game + Drop> Auditor<G> {
         take_text(self.alloc, &mut self.reply)
     }
 
-    /// Checks the reply, which must be the game string of the game.
-    fn check_string(&mut self, reply: &[u8]) -> Result<(), AllocError>
+    /// Checks the reply to what was asked, which must be the game string of the game.
+    fn check_string(&mut self, asked: &[u8], reply: &[u8]) -> Result<(), AllocError>
         requires { length reply.now ≤ greatest_line }
-        ensures { OnOk result (self.new ≡ check_string self.old reply.now) }
+        ensures { OnOk result (self.new ≡ check_string self.old asked.now reply.now) }
     {
-        match wrong_string(self.alloc, &self.game, reply)? {
+        match wrong_string(self.alloc, &self.game, asked, reply)? {
             None => self.list_or_end(),
             Some(finding) => self.found(&finding),
         }
+    }
+
+    /// Checks the reply to the start of a game, which must be its game string.
+    fn check_begun(&mut self, reply: &[u8]) -> Result<(), AllocError>
+        requires short { length reply.now ≤ greatest_line }
+        requires stage { self.old.stage ≡ Stage.Beginning }
+        ensures { OnOk result (self.new
+            ≡ check_string self.old (line_at self.old Stage.Beginning) reply.now) }
+    {
+        let asked = self.place_line()?;
+        self.check_string(asked.items(), reply)
     }
 
     /// The legal moves.
@@ -161,10 +173,12 @@ impl<G: Game + Drop> Auditor<G> {
     fn check_move(&mut self, m: Move, reply: &[u8]) -> Result<(), AllocError>
         requires short { length reply.now ≤ greatest_line }
         requires stage { self.old.stage ≡ Stage.Playing m }
-        ensures { OnOk result (self.new ≡ check_string (with_move self.old m) reply.now) }
+        ensures { OnOk result (self.new
+            ≡ check_string (with_move self.old m) (line_at self.old (Stage.Playing m)) reply.now) }
     {
+        let asked = self.place_line()?;
         self.play(m);
-        self.check_string(reply)
+        self.check_string(asked.items(), reply)
     }
 
     /// Reads the expansions that the engine plays from its greeting.
@@ -182,7 +196,7 @@ impl<G: Game + Drop> Auditor<G> {
     {
         match self.stage {
             Stage::Greeting => self.greet(reply),
-            Stage::Beginning => self.check_string(reply),
+            Stage::Beginning => self.check_begun(reply),
             Stage::Listing => self.check_list(reply),
             Stage::Playing { m } => self.check_move(m, reply),
             Stage::Undoing { plies } => self.check_undo(plies, reply),

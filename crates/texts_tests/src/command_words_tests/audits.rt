@@ -10,7 +10,7 @@ struct Row {
     audit: AuditAsked,
 }
 
-const ROWS: [Row; 10] = [
+const ROWS: [Row; 13] = [
     Row {
         words: "audit|--engine|a|--games|1|--seed|0",
         audit: AuditAsked {
@@ -19,7 +19,7 @@ const ROWS: [Row; 10] = [
             seed: 0,
             plies: 80,
             game_type: None,
-            stop: false,
+            most: 1_000_000,
             patient: false,
         },
     },
@@ -31,7 +31,7 @@ const ROWS: [Row; 10] = [
             seed: 7,
             plies: 80,
             game_type: None,
-            stop: false,
+            most: 1_000_000,
             patient: false,
         },
     },
@@ -43,7 +43,7 @@ const ROWS: [Row; 10] = [
             seed: u64::MAX,
             plies: 1,
             game_type: None,
-            stop: false,
+            most: 1_000_000,
             patient: false,
         },
     },
@@ -55,7 +55,7 @@ const ROWS: [Row; 10] = [
             seed: 1,
             plies: 1000,
             game_type: Some(BASE),
-            stop: false,
+            most: 1_000_000,
             patient: false,
         },
     },
@@ -67,7 +67,7 @@ const ROWS: [Row; 10] = [
             seed: 3,
             plies: 80,
             game_type: Some(ALL),
-            stop: false,
+            most: 1_000_000,
             patient: false,
         },
     },
@@ -79,7 +79,7 @@ const ROWS: [Row; 10] = [
             seed: 0,
             plies: 80,
             game_type: None,
-            stop: false,
+            most: 1_000_000,
             patient: true,
         },
     },
@@ -91,7 +91,7 @@ const ROWS: [Row; 10] = [
             seed: 0,
             plies: 80,
             game_type: None,
-            stop: true,
+            most: 1,
             patient: false,
         },
     },
@@ -103,7 +103,7 @@ const ROWS: [Row; 10] = [
             seed: 0,
             plies: 80,
             game_type: None,
-            stop: false,
+            most: 1_000_000,
             patient: false,
         },
     },
@@ -115,7 +115,7 @@ const ROWS: [Row; 10] = [
             seed: 1,
             plies: 80,
             game_type: None,
-            stop: false,
+            most: 1_000_000,
             patient: false,
         },
     },
@@ -127,14 +127,50 @@ const ROWS: [Row; 10] = [
             seed: 1,
             plies: 80,
             game_type: None,
-            stop: false,
+            most: 1_000_000,
+            patient: false,
+        },
+    },
+    Row {
+        words: "audit|--engine|a|--games|5|--seed|1|--most|2",
+        audit: AuditAsked {
+            games: 5,
+            first: 1,
+            seed: 1,
+            plies: 80,
+            game_type: None,
+            most: 2,
+            patient: false,
+        },
+    },
+    Row {
+        words: "audit|--most=1000000|--stop|0|--engine|a|--games|5|--seed|1",
+        audit: AuditAsked {
+            games: 5,
+            first: 1,
+            seed: 1,
+            plies: 80,
+            game_type: None,
+            most: 1_000_000,
+            patient: false,
+        },
+    },
+    Row {
+        words: "audit|--engine|a|--stop=1|--games|5|--seed|1|--most|9",
+        audit: AuditAsked {
+            games: 5,
+            first: 1,
+            seed: 1,
+            plies: 80,
+            game_type: None,
+            most: 1,
             patient: false,
         },
     },
 ];
 
 /// Words, separated by `|`, that ask for no audit.
-const NO_AUDITS: [&str; 24] = [
+const NO_AUDITS: [&str; 27] = [
     "audit",
     "audit|--engine|a",
     "audit|--engine|a|--games|1",
@@ -159,6 +195,9 @@ const NO_AUDITS: [&str; 24] = [
     "audit|--engine|a|--games|1|--seed|1|--stop|2",
     "audit|--engine|a|--games|1|--seed|1|--first|0",
     "audit|--engine|a|--games|1|--seed|1|--first|1000000001",
+    "audit|--engine|a|--games|1|--seed|1|--most|0",
+    "audit|--engine|a|--games|1|--seed|1|--most|1000001",
+    "audit|--engine|a|--games|1|--seed|1|--most|1|--most|1",
 ];
 
 /// Whether the words ask for exactly this audit.

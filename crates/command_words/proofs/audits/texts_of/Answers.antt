@@ -35,6 +35,7 @@ returns-clause-only c = λ options give.
     let quiet = c.value-7.ensures ∙ ap (λ given. value_at given 6) values in
     let stop = c.value-8.ensures ∙ ap (λ given. value_at given 7) values in
     let first = c.value-9.ensures ∙ ap (λ given. value_at given 8) values in
+    let most = c.value-10.ensures ∙ ap (λ given. value_at given 9) values in
     λ j. record {
       engine = engine j;
       games = games j;
@@ -45,4 +46,5 @@ returns-clause-only c = λ options give.
       quiet = quiet j;
       stop = stop j;
       first = first j;
+      most = most j;
     }

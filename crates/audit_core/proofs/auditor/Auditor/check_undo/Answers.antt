@@ -1,5 +1,6 @@
-use Rattle.std.proofs.Common.{◌≡◌, ◌∙◌, ap}
-use Rattle.audit_core.specs.AuditState.{AuditState, without_plies, check_undone}
+use Rattle.std.proofs.Common.{◌≡◌, ◌∙◌, ap, ℕ, List}
+use Rattle.audit_core.specs.declared.plan.Stage.TheVariants.{Undoing}
+use Rattle.audit_core.specs.AuditState.{AuditState, without_plies, check_undone, line_at}
 use Rattle.audit_core.proofs.Replies.{on_ok}
 use Rattle.audit_core.proofs.auditor.Auditor.check_undo.Goals as goal
 
@@ -8,5 +9,7 @@ returns g c =
     let s0 : AuditState = c.args.self.now in
     let s1 : AuditState = c.take_back.new.self in
     let s2 : AuditState = c.check_undone.new.self in
-    on_ok c.check_undone.result (s2 ≡ check_undone s1 c.args.reply.now) (s2 ≡ check_undone (without_plies s0 c.args.plies) c.args.reply.now)
-    (λ e. e ∙ ap (λ (s : AuditState). check_undone s c.args.reply.now) c.in_ok-take_back.ensures) c.check_undone.ensures
+    let reply : List ℕ = c.args.reply.now in
+    let line : c.items.result.now ≡ line_at s0 (Undoing c.args.plies) = c.items.ensures ∙ (c.in_ok-asked.ensures ∙ ap (line_at s0) c.requires.stage) in
+    on_ok c.check_undone.result (s2 ≡ check_undone s1 c.items.result.now reply) (s2 ≡ check_undone (without_plies s0 c.args.plies) (line_at s0 (Undoing c.args.plies)) reply)
+    (λ e. e ∙ (λ i. check_undone (c.in_ok-take_back.ensures i) (line i) reply)) c.check_undone.ensures
